@@ -3,13 +3,13 @@
 use mathlib.Core.Path.{_≡_, refl, sym, ap, _∙_, subst}
 use mathlib.Core.Bool.{Bool}
 use mathlib.Core.List.{List, [], _∷_, _++_, append-assoc, append-nil}
-use Prim.Native.Nat.{ℕ, zero, suc, _+_, _-_, _*_, _/_, _%_, _^_, _≤_, _<_}
+use Prim.Native.Nat.{ℕ, suc, _+_, _-_, _*_, _/_, _%_, _^_, _≤_, _<_}
 use native.Mathlib.Nat.{mul-mod-left, add-zero, div-add-mod'}
 use native.Mathlib.Numerals.{add-one}
 use native.Mathlib.Omega.{arith}
 use lib.Pow.{mod-pow-add, shl-shr}
 use lib.Bits.{bitOr, or-shifted}
-use lib.ListN.{length, take, drop, getD, set, length-append, length-set, length-replicate, replicate-append-replicate, take-append-drop}
+use lib.ListN.{length, take, drop, set, length-append, length-set, length-replicate, replicate-append-replicate, take-append-drop}
 use lib.Seq.{drop-drop, take-suc-set, drop-set-lt, sets-eq, take-at, drop-at, length-take-le}
 use Rattle.bitstream.specs.Stream.{bits, unpack, pack, zeros, filling, filled, Bytes}
 use Rattle.bitstream.specs.Laws.{no-bits, bits-low, bits-join, bits-split, bits-zero, length-bits, unpack-append, unpack-byte, unpack-word, pack-unpack, bytes-take, filling-whole}
@@ -46,7 +46,8 @@ put-none t o h = record {
 
 -- ---- four bytes
 
-four : (l : List ℕ) (at a b c d : ℕ) → at + 4 ≤ length l → set (set (set (set l at a) (at + 1) b) (at + 2) c) (at + 3) d ≡ take at l ++ (a ∷ b ∷ c ∷ d ∷ []) ++ drop (at + 4) l
+four : (l : List ℕ) (at a b c d : ℕ) → at + 4 ≤ length l
+    → set (set (set (set l at a) (at + 1) b) (at + 2) c) (at + 3) d ≡ take at l ++ (a ∷ b ∷ c ∷ d ∷ []) ++ drop (at + 4) l
 four l at a b c d h =
     let e1 : at + 1 ≡ suc at = omega arith in
     let e2 : at + 2 ≡ suc (suc at) = omega arith in
@@ -77,7 +78,8 @@ joined word value width count h l =
     let m : (word * 2 ^ width) % 2 ^ 64 ≡ word % 2 ^ j * 2 ^ width =
     ap (λ (n : ℕ). word * 2 ^ width % 2 ^ n) (sym e)
     ∙ rw (mod-pow-add (word * 2 ^ width) j width, shl-shr, mul-mod-left, add-zero) in
-    rw (m, or-shifted (word % 2 ^ j) width value h, bits-join count width (word % 2 ^ j) value h) (ap (λ (x : List Bool). x ++ bits width value) (bits-low count j word (omega arith)))
+    rw (m, or-shifted (word % 2 ^ j) width value h, bits-join count width (word % 2 ^ j) value h)
+    (ap (λ (x : List Bool). x ++ bits width value) (bits-low count j word (omega arith)))
 
 module _ (t : Tail) (out : List ℕ) (value width word : ℕ) (fits : value < 2 ^ width) (small : t .count + width ≤ 64)
     (isWord : word ≡ bitOr ((t .word * 2 ^ width) % 2 ^ 64) value) where
@@ -157,7 +159,8 @@ put-byte word count at o h l =
       size = omega arith;
     }
 
-pub put-done : {t : Tail} {o : List ℕ} (word count at : ℕ) (o′ : List ℕ) → count ≡ 0 → Put t o [] (record { word = word; count = count; at = at }) o′ → Done t o at o′
+pub put-done : {t : Tail} {o : List ℕ} (word count at : ℕ) (o′ : List ℕ) → count ≡ 0
+    → Put t o [] (record { word = word; count = count; at = at }) o′ → Done t o at o′
 put-done word count at o′ z p = record {
   holds = λ S h.
       let k = p .holds S h in
@@ -167,7 +170,8 @@ put-done word count at o′ z p = record {
 }
 
 -- what `finish` leaves where the file fits: its bytes, and behind them what was there
-pub done-file : {t : Tail} {o o′ : List ℕ} {n : ℕ} {S : List Bool} → Done t o n o′ → Holds o t S → n ≤ length o′ → Bytes o′ → o′ ≡ pack S ++ drop n o
+pub done-file : {t : Tail} {o o′ : List ℕ} {n : ℕ} {S : List Bool}
+    → Done t o n o′ → Holds o t S → n ≤ length o′ → Bytes o′ → o′ ≡ pack S ++ drop n o
 done-file {t} {o} {o′} {n} {S} d h l b =
     let e : pack S ≡ take n o′ = ap pack (sym (d .holds S h .1 l)) ∙ pack-unpack (take n o′) (bytes-take n o′ b) in
     rw (e, ← d .rest, take-append-drop)

@@ -1,22 +1,22 @@
 -- The laws of the bit stream: fields join and part, numbers and bytes go to bits and back. Assumes nothing.
-use mathlib.Core.Path.{_≡_, refl, sym, ap, ap₂, _∙_, subst}
+use mathlib.Core.Path.{_≡_, refl, sym, ap, ap₂, _∙_}
 use mathlib.Core.Bool.{Bool, true, false, cond}
 use mathlib.Core.List.{List, [], _∷_, _++_, append-assoc, append-nil}
 use Prim.Native.Nat.{ℕ, zero, suc, _+_, _-_, _*_, _/_, _%_, _^_, _≤_, _<_}
-use native.Mathlib.Nat.{suc-add, zero-add, add-zero, add-comm, mul-comm, one-mul, zero-mul, zero-div, zero-sub, sub-zero, suc-sub-suc, mod-lt, mod-self, mod-eq-of-lt, mul-mod-left, div-add-mod', lt-of-lt-of-le, zero-lt-suc}
+use native.Mathlib.Nat.{suc-add, zero-add, add-zero, add-comm, one-mul, zero-mul, add-mul, mul-assoc, zero-div, sub-zero, mod-lt, mod-self, mod-eq-of-lt, mul-mod-left, div-add-mod', lt-of-lt-of-le}
 use native.Mathlib.Decide.{decLe}
 use native.Mathlib.Numerals.{one-add}
 use native.Mathlib.Omega.{arith}
 use borrow.Author.Tests.{le-leb, lt-leb, leb-true, leb-false}
 use lib.Dec.{eqb, leb}
-use lib.ListN.{length, take, drop, getD, replicate, length-append, length-take, length-drop, length-replicate, take-append-drop}
+use lib.ListN.{length, take, drop, length-append, length-take, length-drop, length-replicate, take-append-drop}
 use lib.Seq.{take-at, drop-at, take-add, drop-drop, drop-nil, length-take-le}
 use lib.Pow.{pow-add, pow-pos, pow-mono, shr-shr, field, high, low, mod-mod-pow, mod-pow-add}
 use Rattle.bitstream.specs.Reader.{found, Means}
 use Rattle.bitstream.specs.declared.read.Got.{Got}
 use Rattle.bitstream.specs.declared.read.Got.the-variants.{Value, Short, Bad}
 use Rattle.bitstream.specs.Stream as stream
-use Rattle.bitstream.specs.Stream.{odd, bits, digit, number, Bytes, unpack, firstBytes, pack, zeros, filling, filled, Parsed, ok, short, bad}
+use Rattle.bitstream.specs.Stream.{odd, bits, digit, number, Bytes, unpack, firstBytes, pack, zeros, filling, filled, Parsed, ok, short}
 
 -- ---- `bits`
 
@@ -89,11 +89,6 @@ take-bits n w v h =
 pub drop-bits : (n w v : ℕ) → drop n (bits (n + w) v) ≡ bits w v
 drop-bits n w v = rw (bits-split n w v) (drop-at (bits n (v / 2 ^ w)) (bits w v) n (length-bits n _))
 
-pub take-append : (m : ℕ) (xs ys : List Bool) → take m (xs ++ ys) ≡ take m xs ++ take (m - length xs) ys
-take-append zero xs ys = rw zero-sub
-take-append (suc m) [] ys = rw sub-zero
-take-append (suc m) (x ∷ xs) ys = rw (suc-sub-suc, take-append m xs ys)
-
 -- the part from o on of what is taken
 pub take-drop : (o n : ℕ) (l : List Bool) → o ≤ length l → take n (drop o l) ≡ drop o (take (o + n) l)
 take-drop o n l h = rw (take-add o n l) (sym (drop-at (take o l) (take n (drop o l)) o (length-take-le o l h)))
@@ -124,6 +119,14 @@ number-lt (b ∷ l) =
     go : (b : Bool) → number l < 2 ^ length l → digit b * 2 ^ length l + number l < 2 * 2 ^ length l
     go true h = omega arith
     go false h = omega arith
+
+-- one list behind another
+pub number-append : (l m : List Bool) → number (l ++ m) ≡ number l * 2 ^ length m + number m
+unfolding number
+number-append [] m = rw (zero-mul, zero-add)
+number-append (b ∷ l) m =
+    let e : 2 ^ length (l ++ m) ≡ 2 ^ length l * 2 ^ length m = ap (λ (n : ℕ). 2 ^ n) (length-append l m) ∙ pow-add 2 (length l) (length m) in
+    rw (number-append l m, add-mul (digit b * 2 ^ length l) (number l) (2 ^ length m), mul-assoc (digit b) (2 ^ length l) (2 ^ length m), ← e) (omega arith)
 
 digit-bits : (b : Bool) → bits 1 (digit b) ≡ b ∷ []
 unfolding bits odd
