@@ -1,0 +1,2 @@
+-- The laws that the coder's functions rest on.
+pub mod Codewords

@@ -1,0 +1,15 @@
+// The cube file: coding order, body and the whole, and the answers of the public calls.
+use settings::Refusal;
+use settings::Settings;
+
+// What pack and length answer: the file's length in bytes, or a refusal.
+pub enum Packed {
+    Length(u64),
+    Refused(Refusal),
+}
+
+// What open and look answer: the settings, or a refusal.
+pub enum Opened {
+    Settings(Settings),
+    Refused(Refusal),
+}

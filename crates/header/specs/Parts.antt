@@ -1,0 +1,134 @@
+-- The fixed fields of the three parts (tables 5-1, 5-2 and 5-3): as written, and the settings that their numbers name.
+use mathlib.Core.Bool.{Bool, cond}
+use mathlib.Core.List.{List, [], _∷_}
+use Prim.Native.Nat.{ℕ, zero, suc, _+_, _-_, _^_}
+use lib.IntN.{ℤ, pos, natAbs, _+ℤ_, _-ℤ_}
+use lib.ListN.{getD}
+use lib.Dec.{eqb}
+use Rattle.settings.specs.declared.Image.{Image}
+use Rattle.settings.specs.declared.Predictor.{Predictor}
+use Rattle.settings.specs.declared.Coder.{Coder}
+use Rattle.header.specs.Fields.{Field, _∶_, flag}
+
+-- 12 bytes: user data, Nx, Ny, Nz, sample type, reserved, D, order, M, reserved, B, coder type, reserved
+unfoldable pub imageFields : Image → ℕ → List Field
+imageFields I coder =
+    8 ∶ I .user ∷ 16 ∶ I .nx ∷ 16 ∶ I .ny ∷ 16 ∶ I .nz ∷ 1 ∶ flag (I .signed) ∷ 2 ∶ 0 ∷ 4 ∶ I .depth
+    ∷ 1 ∶ flag (I .sequential) ∷ 16 ∶ cond (I .sequential) 0 (I .interleave) ∷ 2 ∶ 0 ∷ 3 ∶ I .word ∷ 1 ∶ coder ∷ 10 ∶ 0 ∷ []
+
+abbrev pub imageWidths : List ℕ
+imageWidths = 8 ∷ 16 ∷ 16 ∷ 16 ∷ 1 ∷ 2 ∷ 4 ∷ 1 ∷ 16 ∷ 2 ∷ 3 ∷ 1 ∷ 10 ∷ []
+
+-- the e ≤ n with 2^e = x
+unfoldable pub exponentOf : ℕ → ℕ → ℕ
+exponentOf zero x = 0
+exponentOf (suc n) x = cond (eqb x (2 ^ suc n)) (suc n) (exponentOf n x)
+
+-- 5 bytes: reserved, P, mode, reserved, sums, reserved, R, Ω − 4, log2 tinc − 4, vmin + 6, vmax + 6, reserved, custom, table flag, Q
+unfoldable pub predictorFields : Predictor → List Field
+predictorFields P =
+    2 ∶ 0 ∷ 4 ∶ P .bands ∷ 1 ∶ flag (P .reduced) ∷ 1 ∶ 0 ∷ 1 ∶ flag (P .column) ∷ 1 ∶ 0 ∷ 6 ∶ P .register
+    ∷ 4 ∶ (P .resolution - 4) ∷ 4 ∶ (exponentOf 11 (P .interval) - 4) ∷ 4 ∶ natAbs (P .vmin +ℤ pos 6)
+    ∷ 4 ∶ natAbs (P .vmax +ℤ pos 6) ∷ 1 ∶ 0 ∷ 1 ∶ flag (P .custom) ∷ 1 ∶ flag (P .custom)
+    ∷ 5 ∶ cond (P .custom) (P .precision) 0 ∷ []
+
+abbrev pub predictorWidths : List ℕ
+predictorWidths = 2 ∷ 4 ∷ 1 ∷ 1 ∷ 1 ∷ 1 ∷ 6 ∷ 4 ∷ 4 ∷ 4 ∷ 4 ∷ 1 ∷ 1 ∷ 1 ∷ 5 ∷ []
+
+-- 2 bytes: Umax, γ* − 4, γ0, K or all ones, table flag
+unfoldable pub coderFields : Coder → List Field
+coderFields C =
+    5 ∶ C .unary ∷ 3 ∶ (C .rescaling - 4) ∷ 3 ∶ C .initial ∷ 4 ∶ cond (C .tabled) 15 (C .constant) ∷ 1 ∶ flag (C .tabled) ∷ []
+
+abbrev pub coderWidths : List ℕ
+coderWidths = 5 ∷ 3 ∷ 3 ∷ 4 ∷ 1 ∷ []
+
+-- ---- and back
+
+-- the number from 1 to m whose remainder by m is v
+abbrev pub unwrapped : ℕ → ℕ → ℕ
+unwrapped m v = cond (eqb v 0) m v
+
+abbrev pub isOne : ℕ → Bool
+isOne v = eqb v 1
+
+-- the image settings that the 13 numbers of table 5-1 name
+unfoldable pub imageOf : List ℕ → Image
+imageOf v = record {
+  user = getD v 0 0;
+  nx = unwrapped (2 ^ 16) (getD v 1 0);
+  ny = unwrapped (2 ^ 16) (getD v 2 0);
+  nz = unwrapped (2 ^ 16) (getD v 3 0);
+  signed = isOne (getD v 4 0);
+  depth = unwrapped (2 ^ 4) (getD v 6 0);
+  sequential = isOne (getD v 7 0);
+  interleave = cond (isOne (getD v 7 0)) 0 (unwrapped (2 ^ 16) (getD v 8 0));
+  word = unwrapped (2 ^ 3) (getD v 10 0);
+}
+
+-- the coder type among them
+abbrev pub coderType : List ℕ → ℕ
+coderType v = getD v 11 0
+
+-- the predictor settings that the 15 numbers of table 5-2 name
+unfoldable pub predictorOf : List ℕ → Predictor
+predictorOf v = record {
+  bands = getD v 1 0;
+  reduced = isOne (getD v 2 0);
+  column = isOne (getD v 4 0);
+  register = unwrapped (2 ^ 6) (getD v 6 0);
+  resolution = getD v 7 0 + 4;
+  interval = 2 ^ (getD v 8 0 + 4);
+  vmin = pos (getD v 9 0) -ℤ pos 6;
+  vmax = pos (getD v 10 0) -ℤ pos 6;
+  custom = isOne (getD v 12 0);
+  precision = cond (isOne (getD v 12 0)) (getD v 14 0) 0;
+}
+
+-- the coder settings that the 5 numbers of table 5-3 name
+unfoldable pub coderOf : List ℕ → Coder
+coderOf v = record {
+  unary = unwrapped (2 ^ 5) (getD v 0 0);
+  rescaling = getD v 1 0 + 4;
+  initial = unwrapped (2 ^ 3) (getD v 2 0);
+  tabled = isOne (getD v 4 0);
+  constant = cond (isOne (getD v 4 0)) 0 (getD v 3 0);
+}
+
+-- ---- settings that are none: M when band-sequential, Q with default weights, K beside its table
+
+unfoldable pub usedImage : Image → Image
+usedImage I = record {
+  user = I .user;
+  nx = I .nx;
+  ny = I .ny;
+  nz = I .nz;
+  signed = I .signed;
+  depth = I .depth;
+  sequential = I .sequential;
+  interleave = cond (I .sequential) 0 (I .interleave);
+  word = I .word;
+}
+
+unfoldable pub usedPredictor : Predictor → Predictor
+usedPredictor P = record {
+  bands = P .bands;
+  reduced = P .reduced;
+  column = P .column;
+  register = P .register;
+  resolution = P .resolution;
+  interval = P .interval;
+  vmin = P .vmin;
+  vmax = P .vmax;
+  custom = P .custom;
+  precision = cond (P .custom) (P .precision) 0;
+}
+
+unfoldable pub usedCoder : Coder → Coder
+usedCoder C = record {
+  unary = C .unary;
+  rescaling = C .rescaling;
+  initial = C .initial;
+  tabled = C .tabled;
+  constant = cond (C .tabled) 0 (C .constant);
+}

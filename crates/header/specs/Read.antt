@@ -1,0 +1,91 @@
+-- The header read off bits, with refusals 7, 8, 12 and 4 in document 01's order.
+-- A part is refused 8 unless its settings are legal and its bits are, to the last, those that these settings write:
+-- so a reserved bit, an M beside band-sequential order, a Q beside default weights, a table without its flag are refused.
+use mathlib.Core.Bool.{Bool, true, cond, not, _&&_}
+use mathlib.Core.List.{List, [], _∷_}
+use Prim.Native.Nat.{ℕ, _+_, _-_, _*_, _^_}
+use lib.IntN.{ℤ, pos}
+use lib.ListN.{length, take, drop}
+use lib.Dec.{leb, ltb, eqb}
+use Rattle.bitstream.specs.Stream.{filled, filling}
+use Rattle.settings.specs.declared.Image.{Image}
+use Rattle.settings.specs.declared.Predictor.{Predictor}
+use Rattle.settings.specs.declared.Coder.{Coder}
+use Rattle.settings.specs.declared.Settings.{Settings}
+use Rattle.settings.specs.declared.Refusal.the-variants.{EndsInHeader, IllegalField, HouseLimit, BlockCoder}
+use Rattle.settings.specs.Legal.{imageLegal, predictorLegal, coderLegal, limited}
+use Rattle.settings.specs.Tables.{every}
+use Rattle.settings.specs.Checks.{Test, _⇒_, firstHit}
+use Rattle.settings.specs.Reading.{Read, got, andThen, unless}
+use Rattle.header.specs.Fields.{fields, split, same}
+use Rattle.header.specs.Parts.{imageFields, imageWidths, imageOf, coderType, predictorFields, predictorWidths, predictorOf, coderFields, coderWidths, coderOf}
+use Rattle.header.specs.Tables.{componentsBefore, numberAt, tablesOf}
+
+-- n bits are there, or the header ends inside
+abbrev pub present : {A : Type 0} → ℕ → List Bool → Read A → Read A
+present n l x = unless (firstHit (ltb (length l) n ⇒ EndsInHeader ∷ [])) x
+
+unfoldable pub readImage : List Bool → Read Image
+readImage l =
+    present 96 l
+    (unless (firstHit
+    (not (imageLegal (imageOf v) && same (take 96 l) (fields (imageFields (imageOf v) (coderType v)))) ⇒ IllegalField
+    ∷ eqb (coderType v) 1 ⇒ BlockCoder
+    ∷ not (limited (imageOf v)) ⇒ HouseLimit
+    ∷ []))
+    (got (imageOf v) (drop 96 l)))
+  where
+    v : List ℕ
+    v = split imageWidths l
+
+unfoldable pub readPredictor : Image → List Bool → Read Predictor
+readPredictor I l =
+    present 40 l
+    (unless (firstHit
+    (not (predictorLegal I (predictorOf v) && same (take 40 l) (fields (predictorFields (predictorOf v)))) ⇒ IllegalField ∷ []))
+    (got (predictorOf v) (drop 40 l)))
+  where
+    v : List ℕ
+    v = split predictorWidths l
+
+unfoldable pub readCoder : Image → List Bool → Read Coder
+readCoder I l =
+    present 16 l
+    (unless (firstHit
+    (not (coderLegal I (coderOf v) && same (take 16 l) (fields (coderFields (coderOf v)))) ⇒ IllegalField ∷ []))
+    (got (coderOf v) (drop 16 l)))
+  where
+    v : List ℕ
+    v = split coderWidths l
+
+-- n bits of a table that pass the test, and the fill behind them up to a byte
+unfoldable pub readTable : ℕ → (List Bool → Bool) → List Bool → Read (List Bool)
+readTable n test l =
+    present (n + filling 8 n) l
+    (unless (firstHit (not (test (take n l) && same (take (n + filling 8 n) l) (filled 8 (take n l))) ⇒ IllegalField ∷ []))
+    (got (take n l) (drop (n + filling 8 n) l)))
+
+-- the weight table, where there is one
+unfoldable pub readWeights : Image → Predictor → List Bool → Read (List Bool)
+readWeights I P l =
+    cond (P .custom) (readTable (P .precision * componentsBefore P (I .nz)) (λ table. true) l) (got [] l)
+
+-- the table of k', where there is one; each is at most D − 2
+unfoldable pub readAccumulators : Image → Coder → List Bool → Read (List Bool)
+readAccumulators I C l =
+    cond (C .tabled) (readTable (4 * I .nz) (λ table. every (I .nz) (λ z. leb (numberAt 4 table z) (I .depth - 2))) l) (got [] l)
+
+-- the settings, and the table area with unused slots as zero
+pub record Header : Type 0 where
+  pub settings : Settings
+  pub tables : List ℤ
+
+unfoldable pub readHeader : List Bool → Read Header
+readHeader l =
+    andThen (readImage l) (λ I l₁.
+    andThen (readPredictor I l₁) (λ P l₂.
+    andThen (readWeights I P l₂) (λ weights l₃.
+    andThen (readCoder I l₃) (λ C l₄.
+    andThen (readAccumulators I C l₄) (λ accumulators l₅.
+    let S : Settings = record { image = I; predictor = P; coder = C } in
+    got (record { settings = S; tables = tablesOf S weights accumulators }) l₅)))))
