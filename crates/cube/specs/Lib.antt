@@ -1,7 +1,9 @@
 -- The file of section 5: packing and opening as definitions, and demands 2 and 3 of them.
 pub mod File
 pub mod Open
+pub mod Areas
 pub mod Stars
 pub mod SmallFiles
 pub mod UsedLaws
 pub mod FileLaws
+pub mod Demands

@@ -1,0 +1,2 @@
+-- Pure lemmas behind the functions' proofs.
+pub mod Clears

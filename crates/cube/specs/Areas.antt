@@ -1,0 +1,77 @@
+-- What the public calls answer, and what each lent area holds afterwards (document 01, "When the recorder says no").
+use mathlib.Core.Path.{_≡_}
+use mathlib.Core.Bool.{Bool, true, false, cond}
+use mathlib.Core.List.{List, _++_}
+use Prim.Native.Nat.{ℕ}
+use lib.IntN.{ℤ, pos}
+use lib.ListN.{length, drop, replicate}
+use Rattle.settings.specs.declared.Settings.{Settings}
+use Rattle.settings.specs.declared.Refusal.{Refusal}
+use Rattle.settings.specs.declared.Refusal.the-variants.{IllegalSetting, SampleOutOfRange, WrongCount, HouseLimit, ShortArea, NoRoom, EndsInHeader, IllegalField, BodyEnds, BadCodeword, AfterEnd, BlockCoder}
+use Rattle.settings.specs.Reading.{Read, got, refused}
+use Rattle.cube.specs.declared.Packed.{Packed}
+use Rattle.cube.specs.declared.Packed.the-variants as packing
+use Rattle.cube.specs.declared.Opened.{Opened}
+use Rattle.cube.specs.declared.Opened.the-variants as opening
+use Rattle.cube.specs.File.{file, packed}
+use Rattle.cube.specs.Open.{Cube, Lent, opened}
+
+-- the refusals that leave the lent areas zero, whole: 6 the output, 9 to 11 the image and table areas
+unfoldable pub clears : Refusal → Bool
+clears IllegalSetting = false
+clears (SampleOutOfRange index) = false
+clears WrongCount = false
+clears HouseLimit = false
+clears ShortArea = false
+clears (NoRoom length) = true
+clears EndsInHeader = false
+clears IllegalField = false
+clears (BodyEnds rank) = true
+clears (BadCodeword rank) = true
+clears (AfterEnd count) = true
+clears BlockCoder = false
+
+-- an area that held l: done from its start on, or after a refusal zero or untouched
+abbrev pub filledFrom : {A : Type 0} → List A → List A → List A
+filledFrom done l = done ++ drop (length done) l
+
+abbrev pub afterRefusal : {A : Type 0} → A → Refusal → List A → List A
+afterRefusal zero w l = cond (clears w) (replicate (length l) zero) l
+
+-- ---- pack
+
+-- the output that held l
+unfoldable pub outAfter : Settings → List ℤ → List ℤ → Packed → List ℕ → List ℕ
+outAfter S tables samples (packing.Length n) l = filledFrom (file S tables samples) l
+outAfter S tables samples (packing.Refused w) l = afterRefusal 0 w l
+
+-- ---- open
+
+-- the answer to what is read
+unfoldable pub openAnswer : Read Cube → Opened
+openAnswer (got c r) = opening.Settings (c .settings)
+openAnswer (refused w) = opening.Refused w
+
+-- the image area and the table area that held l
+unfoldable pub imageAfter : Read Cube → List ℤ → List ℤ
+imageAfter (got c r) l = filledFrom (c .samples) l
+imageAfter (refused w) l = afterRefusal (pos 0) w l
+
+unfoldable pub tablesAfter : Read Cube → List ℤ → List ℤ
+tablesAfter (got c r) l = filledFrom (c .tables) l
+tablesAfter (refused w) l = afterRefusal (pos 0) w l
+
+-- the lengths of what is lent
+abbrev pub lentOf : List ℤ → List ℤ → List ℤ → Lent
+lentOf scratch tables image = record { scratch = length scratch; tables = length tables; image = length image }
+
+-- ---- the calls' statements
+
+pub record Packs (S : Settings) (tables samples scratch : List ℤ) (out : List ℕ) (r : Packed) (out′ : List ℕ) : Type 0 where
+  pub answer : r ≡ packed S tables samples (length scratch) (length out)
+  pub output : out′ ≡ outAfter S tables samples (packed S tables samples (length scratch) (length out)) out
+
+pub record Opens (bytes : List ℕ) (scratch tables image : List ℤ) (r : Opened) (tables′ image′ : List ℤ) : Type 0 where
+  pub answer : r ≡ openAnswer (opened (lentOf scratch tables image) bytes)
+  pub table-area : tables′ ≡ tablesAfter (opened (lentOf scratch tables image) bytes) tables
+  pub image-area : image′ ≡ imageAfter (opened (lentOf scratch tables image) bytes) image
