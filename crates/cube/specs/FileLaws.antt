@@ -73,7 +73,7 @@ module _ (h : Header) (end : ℕ) (samples : List ℤ) where
 
 -- ---- bits and bytes of a file
 
-whole-bytes : (w n : ℕ) → n % (8 * w) ≡ 0 → n % 8 ≡ 0
+pub whole-bytes : (w n : ℕ) → n % (8 * w) ≡ 0 → n % 8 ≡ 0
 whole-bytes w n e =
     let d : n / (8 * w) * (8 * w) + n % (8 * w) ≡ n = div-add-mod' n (8 * w) in
     let a : n / (8 * w) * (8 * w) ≡ 8 * (w * (n / (8 * w))) = mul-comm (n / (8 * w)) (8 * w) ∙ mul-assoc 8 w (n / (8 * w)) in

@@ -2,6 +2,8 @@
 pub mod File
 pub mod Open
 pub mod Areas
+pub mod Ending
+pub mod Writing
 pub mod Stars
 pub mod SmallFiles
 pub mod UsedLaws

@@ -1,5 +1,6 @@
 // The cube file: coding order, body and the whole, and the answers of the public calls.
 pub mod clear;
+pub mod ending;
 
 use settings::Refusal;
 use settings::Settings;
