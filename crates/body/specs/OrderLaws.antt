@@ -4,11 +4,13 @@ use mathlib.Core.Logic.{_≢_}
 use mathlib.Core.Bool.{Bool, true, false, cond}
 use mathlib.Core.List.{List, [], _∷_, _++_}
 use Prim.Native.Nat.{ℕ, zero, suc, _+_, _-_, _*_, _/_, _%_, _<_, _≤_, min}
-use native.Mathlib.Nat.{mul-comm, mul-le-mul-right, suc-mul, div-add-mod', mod-lt, div-lt-iff-lt-mul, le-div-iff-mul-le}
+use native.Mathlib.Nat.{mul-comm, mul-assoc, mul-le-mul-right, suc-mul, div-add-mod', mod-lt, div-lt-iff-lt-mul, le-div-iff-mul-le}
 use native.Mathlib.Decide.{ℕ-discrete}
 use native.Mathlib.Omega.{arith}
 use Rattle.settings.specs.declared.Image.{Image}
-use Rattle.settings.specs.Lists.{join, one}
+use lib.ListN.{length}
+use Rattle.settings.specs.Lists.{join, one, sumBelow}
+use Rattle.settings.specs.ListLaws.{sumBelow-ext, sumBelow-scaled, join-shift, length-join, length-join-same, length-ones}
 use Rattle.body.specs.Order.{Place, columnOf, rowOf, bandSequential, subFrames, frameOf, bandInterleaved, order}
 
 -- F holds of each element
@@ -258,3 +260,47 @@ module _ (I : Image) where
           row-part F (I .nx) y (g * M) (min M (I .nz - g * M)) x (q .z) (mod-lt (q .t) nx) (omega (arith, g-is)) (omega (arith, g-is, mod-lt (q .z) pm))
           (part F (λ i. rowOf (I .nx) y (i * M) (min M (I .nz - i * M))) 0 ((I .nz + M - 1) / M) g (omega arith) (omega (arith, g-in pm))
           (part F _ 0 (I .ny) y (omega arith) (omega (arith, y-in)) h)) back
+
+-- ---- how many places there are
+
+length-column : (t z n : ℕ) → length (columnOf t z n) ≡ n
+unfolding columnOf
+length-column t z n =
+    ap length (join-shift (λ b. one (record { z = b; t = t })) z n) ∙ length-ones (λ i. record { z = z + i; t = t }) n
+
+length-row : (nx y z n : ℕ) → length (rowOf nx y z n) ≡ n * nx
+unfolding rowOf
+length-row nx y z n = length-join-same (λ x. columnOf (y * nx + x) z n) nx n (λ x. length-column (y * nx + x) z n)
+
+-- the bands of the first g sub-frames
+bands-of : (M nz g : ℕ) → sumBelow g (λ i. min M (nz - i * M)) ≡ min (g * M) nz
+unfolding sumBelow
+bands-of M nz zero = omega arith
+bands-of M nz (suc g) = let h = bands-of M nz g in let s = suc-mul g M in omega arith
+
+length-frame : (nx nz M y : ℕ) → 0 < M → length (frameOf nx nz M y) ≡ nz * nx
+unfolding frameOf subFrames
+length-frame nx nz M y pm =
+    let g : ℕ = (nz + M - 1) / M in
+    let a : length (join (λ i. rowOf nx y (i * M) (min M (nz - i * M))) 0 g) ≡ sumBelow g (λ i. nx * min M (nz - i * M)) =
+    length-join (λ i. rowOf nx y (i * M) (min M (nz - i * M))) g
+    ∙ sumBelow-ext g _ _ (λ i _. length-row nx y (i * M) (min M (nz - i * M)) ∙ mul-comm (min M (nz - i * M)) nx) in
+    let d : g * M + (nz + M - 1) % M ≡ nz + M - 1 = div-add-mod' (nz + M - 1) M in
+    let m = mod-lt (nz + M - 1) pm in
+    let b : min (g * M) nz ≡ nz = omega arith in
+    a ∙ sumBelow-scaled nx g (λ i. min M (nz - i * M)) ∙ ap (λ (x : ℕ). nx * x) (bands-of M nz g ∙ b) ∙ mul-comm nx nz
+
+pub length-order : (I : Image) → (I .sequential ≡ false → 0 < I .interleave) → length (order I) ≡ I .nx * I .ny * I .nz
+unfolding order bandSequential bandInterleaved
+length-order I m = go (I .sequential) refl
+  where
+    nx : ℕ
+    nx = I .nx
+
+    go : (b : Bool) → I .sequential ≡ b → length (cond b (bandSequential nx (I .ny) (I .nz)) (bandInterleaved nx (I .ny) (I .nz) (I .interleave))) ≡ nx * I .ny * I .nz
+    go true e =
+        length-join-same (λ z. join (λ y. rowOf nx y z 1) 0 (I .ny)) (I .nz) (nx * I .ny)
+        (λ z. length-join-same (λ y. rowOf nx y z 1) (I .ny) nx (λ y. length-row nx y z 1 ∙ omega arith))
+    go false e =
+        length-join-same (λ y. frameOf nx (I .nz) (I .interleave) y) (I .ny) (I .nz * nx) (λ y. length-frame nx (I .nz) (I .interleave) y (m e))
+        ∙ (mul-assoc (I .nz) nx (I .ny) ∙ mul-comm (I .nz) (nx * I .ny))

@@ -9,3 +9,5 @@ pub mod SmallFiles
 pub mod UsedLaws
 pub mod FileLaws
 pub mod Demands
+pub mod SizeLaws
+pub mod ValueLaws
