@@ -1,1 +1,5 @@
-// Definitions and laws alone.
+// Section 4 of the standard: local sums and differences, the prediction, the weights, and the mapped residual.
+pub mod mapping;
+pub mod prediction;
+pub mod sums;
+pub mod weights;
