@@ -1,5 +1,7 @@
-// The sample-adaptive coder (5.4.3.2): statistics and codewords.
+// The sample-adaptive coder: statistics and codewords.
 pub mod codeword;
+pub mod counts;
+pub mod value;
 
 // The adaptive code selection statistics of a band: the counter Γ and the accumulator Σ.
 pub struct Statistics {
