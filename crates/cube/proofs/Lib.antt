@@ -2,3 +2,4 @@
 pub mod Clears
 pub mod Files
 pub mod Endings
+pub mod Packings

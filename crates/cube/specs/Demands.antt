@@ -95,7 +95,7 @@ fine-good S tables samples scratch f = record { long = f .counted; in-range = λ
         subst (λ (v : ℤ). inRange (S .image) v ≡ true) (sym (List·getD-eq-default samples (pos 0) (omega arith)))
         (zero-in-range (S .image) (let d = legal-settings S (f .legal) .image .depth-least in omega arith))
 
-length-fine : (S : Settings) (tables samples : List ℤ) (scratch : ℕ) → Fine S tables samples scratch
+pub length-fine : (S : Settings) (tables samples : List ℤ) (scratch : ℕ) → Fine S tables samples scratch
     → lengthAnswer S tables samples scratch ≡ packing.Length (length (file S tables samples))
 unfolding lengthAnswer
 length-fine S tables samples scratch f = rw (fine-passes S tables samples scratch f)

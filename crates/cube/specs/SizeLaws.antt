@@ -84,9 +84,10 @@ module _ (S : Settings) (tables : List ℤ) (legal : LegalSettings S) (few : S .
       let c = length-coder (S .coder) in
       simp length-append (omega (arith, weights-small, accumulators-small))
 
-pub file-small : (S : Settings) (tables samples : List ℤ) → settingsLegal S ≡ true → limited (S .image) ≡ true → length (file S tables samples) < 2 ^ 24
-unfolding file fileBits body sampleCount
-file-small S tables samples e h =
+-- no body is longer than 48 bits a sample
+pub body-small : (S : Settings) (tables samples : List ℤ) → settingsLegal S ≡ true → limited (S .image) ≡ true → length (body S tables samples) ≤ 48 * 1048576
+unfolding body
+body-small S tables samples e h =
     let legal = legal-settings S e in
     let l = limited-facts (S .image) h in
     let n : length (order (S .image)) ≡ S .image .nx * S .image .ny * S .image .nz = length-order (S .image) (λ q. legal .image .interleaved q .0) in
@@ -94,8 +95,15 @@ file-small S tables samples e h =
     let o : length (order (S .image)) ≤ 1048576 = let a = l .few-samples in omega arith in
     let m : (S .coder .unary + S .image .depth) * length (order (S .image)) ≤ 48 * 1048576 = mul-le-mul k o in
     let c = length-codes S tables (imageOf (S .image) samples) (order (S .image)) in
-    let s = header-small S tables legal (l .few-bands) in
-    let b = length-append (header S tables) (codes S tables (imageOf (S .image) samples) (order (S .image))) in
+    omega arith
+
+pub file-small : (S : Settings) (tables samples : List ℤ) → settingsLegal S ≡ true → limited (S .image) ≡ true → length (file S tables samples) < 2 ^ 24
+unfolding file fileBits
+file-small S tables samples e h =
+    let legal = legal-settings S e in
+    let m = body-small S tables samples e h in
+    let s = header-small S tables legal (limited-facts (S .image) h .few-bands) in
+    let b = length-append (header S tables) (body S tables samples) in
     let w = legal .image .word-most in
-    let f = filled-lt (8 * S .image .word) (header S tables ++ codes S tables (imageOf (S .image) samples) (order (S .image))) (let a = legal .image .word-least in omega arith) in
+    let f = filled-lt (8 * S .image .word) (header S tables ++ body S tables samples) (let a = legal .image .word-least in omega arith) in
     rw length-pack (omega arith)

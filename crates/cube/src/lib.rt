@@ -1,6 +1,7 @@
 // The cube file: coding order, body and the whole, and the answers of the public calls.
 pub mod clear;
 pub mod ending;
+pub mod pack;
 
 use settings::Refusal;
 use settings::Settings;

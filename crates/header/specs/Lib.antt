@@ -2,10 +2,14 @@
 pub mod Fields
 pub mod FieldLaws
 pub mod Parts
+pub mod Plain
 pub mod PartLaws
 pub mod Tables
+pub mod Sizes
 pub mod TableLaws
 pub mod Write
+pub mod Writing
 pub mod Read
+pub mod Answers
 pub mod ReadLaws
 pub mod HeaderLaws

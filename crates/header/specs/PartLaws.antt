@@ -57,7 +57,7 @@ lowered-value : (w v : ℕ) → 4 ≤ v → v - 4 < 2 ^ w → (v - 4) % 2 ^ w + 
 lowered-value w v h k = rw (mod-eq-of-lt k) (omega arith)
 
 -- plus 6
-raised : (v : ℤ) → negsuc 5 ≤ℤ v → v ≤ℤ pos 9 → (pos (natAbs (v +ℤ pos 6)) ≡ v +ℤ pos 6) × (natAbs (v +ℤ pos 6) < 2 ^ 4)
+pub raised : (v : ℤ) → negsuc 5 ≤ℤ v → v ≤ℤ pos 9 → (pos (natAbs (v +ℤ pos 6)) ≡ v +ℤ pos 6) × (natAbs (v +ℤ pos 6) < 2 ^ 4)
 raised (pos n) h k = (refl, omega (arith, leb→le n 9 (k .le)))
 raised (negsuc n) h k =
     let m : n ≤ 5 = leb→le n 5 (h .le) in
@@ -68,7 +68,7 @@ raised-value v h k =
     let r = raised v h k in
     ap (λ (n : ℕ). pos n -ℤ pos 6) (mod-eq-of-lt (r .1)) ∙ ap (λ (z : ℤ). z -ℤ pos 6) (r .0) ∙ +ℤ-negℤ-cancel v (pos 6)
 
-≤ℤ-trans : (a b c : ℤ) → a ≤ℤ b → b ≤ℤ c → a ≤ℤ c
+pub ≤ℤ-trans : (a b c : ℤ) → a ≤ℤ b → b ≤ℤ c → a ≤ℤ c
 ≤ℤ-trans (pos a) (pos b) (pos c) h k = record { le = le→leb a c (omega (arith, leb→le a b (h .le), leb→le b c (k .le))) }
 ≤ℤ-trans (pos a) (pos b) (negsuc c) h k = absurd (k .le)
 ≤ℤ-trans (pos a) (negsuc b) c h k = absurd (h .le)
@@ -76,7 +76,7 @@ raised-value v h k =
 ≤ℤ-trans (negsuc a) (pos b) (negsuc c) h k = absurd (k .le)
 ≤ℤ-trans (negsuc a) (negsuc b) (negsuc c) h k = record { le = le→leb c a (omega (arith, leb→le b a (h .le), leb→le c b (k .le))) }
 
-exponent-power : (n e : ℕ) → e ≤ n → exponentOf n (2 ^ e) ≡ e
+pub exponent-power : (n e : ℕ) → e ≤ n → exponentOf n (2 ^ e) ≡ e
 unfolding exponentOf
 exponent-power zero e h = omega arith
 exponent-power (suc n) e h = go (decLe e n) (exponent-power n e)

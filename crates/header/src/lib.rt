@@ -1,1 +1,6 @@
-// Definitions and laws alone.
+// The header of a cube file (CCSDS 123.0-B-1, 5.3): three parts, read and written.
+pub mod fields;
+pub mod parts;
+pub mod read;
+pub mod sizes;
+pub mod write;
