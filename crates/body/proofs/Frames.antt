@@ -14,7 +14,7 @@ use Rattle.body.specs.Walk.{Moved}
 use Rattle.body.proofs.Runs.{side, join-none, moved-as, empty, turn-more, onward}
 
 module _ (nz M : ℕ) (h : 0 < M) where
-  frame-more : (g : ℕ) → g * M < nz → g < subFrames nz M
+  pub frame-more : (g : ℕ) → g * M < nz → g < subFrames nz M
   unfolding subFrames
   frame-more g p = go (side g ((nz + M - 1) / M))
     where
@@ -30,7 +30,7 @@ module _ (nz M : ℕ) (h : 0 < M) where
           let c = mul-comm g M in
           absurd (omega arith)
 
-  frame-last : (g : ℕ) → nz ≤ g * M → subFrames nz M ≤ g
+  pub frame-last : (g : ℕ) → nz ≤ g * M → subFrames nz M ≤ g
   unfolding subFrames
   frame-last g p = go (side g ((nz + M - 1) / M))
     where
@@ -50,7 +50,7 @@ module _ (nz M : ℕ) (h : 0 < M) where
           absurd (omega arith)
 
 -- sub-frame g of frame y
-abbrev subFrame : Settings → ℕ → ℕ → List Place
+abbrev pub subFrame : Settings → ℕ → ℕ → List Place
 subFrame S y g = rowOf (S .image .nx) y (g * S .image .interleave) (min (S .image .interleave) (S .image .nz - g * S .image .interleave))
 
 -- the sub-frames of row y up to band z are done

@@ -142,14 +142,14 @@ module _ (S : Settings) (tables samples : List ℤ) where
 
 -- ---- a column
 
-column-more : (t from z : ℕ) → from ≤ z → columnOf t from (z - from) ++ cell z t ≡ columnOf t from (z + 1 - from)
+pub column-more : (t from z : ℕ) → from ≤ z → columnOf t from (z - from) ++ cell z t ≡ columnOf t from (z + 1 - from)
 unfolding columnOf
 column-more t from z h =
     let e : z + 1 - from ≡ z - from + 1 = omega arith in
     let f : from + (z - from) ≡ z = omega arith in
     rw e (rw f at (join-next (λ (b : ℕ). cell b t) from (z - from)))
 
-column-none : (t z : ℕ) → [] ≡ columnOf t z (z - z)
+pub column-none : (t z : ℕ) → [] ≡ columnOf t z (z - z)
 unfolding columnOf
 column-none t z = let e : z - z ≡ 0 = omega arith in rw (e, join-none (λ (b : ℕ). cell b t) z)
 

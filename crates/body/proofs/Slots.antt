@@ -21,17 +21,17 @@ take-drop n (suc o) [] = let e : suc o + n ≡ suc (o + n) = omega arith in rw e
 take-drop n (suc o) (x ∷ l) = let e : suc o + n ≡ suc (o + n) = omega arith in rw e (take-drop n o l)
 
 module _ (s l : List ℤ) (z : ℕ) (h : 32 * z + 32 ≤ length s) (n : length l ≡ 32) where
-  abbrev back : List ℤ
+  abbrev pub back : List ℤ
   back = putMid (32 * z) (32 * z + 32 - 32 * z) s l
 
   back-long : length back ≡ length s
   back-long = same-len-mid (32 * z) (32 * z + 32 - 32 * z) s l (rw (length-take, length-drop) (omega arith))
 
-  part-here : part back z ≡ l
+  pub part-here : part back z ≡ l
   unfolding part
   part-here = rw (drop-at (take (32 * z) s) _ (32 * z) (length-take-le (32 * z) s (omega arith))) (take-at l _ 32 n)
 
-  part-before : (b : ℕ) → b < z → part back b ≡ part s b
+  pub part-before : (b : ℕ) → b < z → part back b ≡ part s b
   unfolding part
   part-before b q =
       let m = back-long in
@@ -40,7 +40,7 @@ module _ (s l : List ℤ) (z : ℕ) (h : 32 * z + 32 ≤ length s) (n : length l
       λ x p. take-drop 32 (32 * b) x ∙ ap (drop (32 * b)) (sym (take-take (32 * b + 32) (32 * z) x (omega arith))) in
       f back (omega arith) ∙ ap (λ (x : List ℤ). drop (32 * b) (take (32 * b + 32) x)) e ∙ sym (f s (omega arith))
 
-  part-behind : (b : ℕ) → z + 1 ≤ b → part back b ≡ part s b
+  pub part-behind : (b : ℕ) → z + 1 ≤ b → part back b ≡ part s b
   unfolding part
   part-behind b q =
       let e : drop (32 * z + 32) back ≡ drop (32 * z + 32) s = drop-put (32 * z) (32 * z + 32) s l (omega arith) h (n ∙ omega arith) in

@@ -64,7 +64,7 @@ module _ {S : Settings} {P : Plan} {tables samples : List ℤ} (g : Given S P ta
   deep = omega (arith, legal .image .depth-least)
 
   -- behind the samples the list reads as 0, which is in range
-  ranged : (i : ℕ) → inRange (S .image) (getD samples i (pos 0)) ≡ true
+  pub ranged : (i : ℕ) → inRange (S .image) (getD samples i (pos 0)) ≡ true
   ranged i = go (ltb i (length samples)) refl
     where
       go : (b : Bool) → ltb i (length samples) ≡ b → inRange (S .image) (getD samples i (pos 0)) ≡ true

@@ -32,7 +32,7 @@ const COUNT_SLOT: usize = 18;
 const SUM_SLOT: usize = 19;
 
 // The statistics that slots hold.
-fn get_statistics(slots: &[i32]) -> Statistics
+pub fn get_statistics(slots: &[i32]) -> Statistics
     requires { ⌜ Naturals (now slots) ⌝ }
     ensures { λ r. ⌜ r ≡ statisticsIn (now (slots .entry)) ⌝ }
 {
@@ -50,7 +50,7 @@ fn put_natural(slots: &mut [i32], at: usize, value: u32)
 }
 
 // Statistics into their slots.
-fn put_statistics(slots: &mut [i32], s: Statistics)
+pub fn put_statistics(slots: &mut [i32], s: Statistics)
     requires { ⌜ Fitting (now slots) s ⌝ }
     ensures { λ r. ⌜ now (slots .exit) ≡ withStatistics (now (slots .entry)) s ⌝ }
 {
@@ -59,7 +59,7 @@ fn put_statistics(slots: &mut [i32], s: Statistics)
 }
 
 // The state of band z before its first value. What the slots held before is not looked at.
-fn begin_band(s: Settings, tables: &[i32], slots: &mut [i32], z: usize)
+pub fn begin_band(s: Settings, tables: &[i32], slots: &mut [i32], z: usize)
     requires { ⌜ Starting s (now tables) (now slots) z ⌝ }
     ensures { λ r. ⌜ Holds (now (slots .exit)) (firstBand s (now (tables .entry)) z) ⌝ }
 {
@@ -70,7 +70,15 @@ fn begin_band(s: Settings, tables: &[i32], slots: &mut [i32], z: usize)
 }
 
 // The weights behind value t.
-fn adapt(s: Settings, p: Plan, slots: &mut [i32], us: &[i32], scaled: i64, sample: i32, t: usize)
+pub fn adapt(
+    s: Settings,
+    p: Plan,
+    slots: &mut [i32],
+    us: &[i32],
+    scaled: i64,
+    sample: i32,
+    t: usize,
+)
     requires { ⌜ Adapting s p (now slots) (now us) scaled t ⌝ }
     ensures { λ r. ⌜ now (slots .exit) ≡ nextWeights s t (scaledError sample scaled) (now (us .entry)) (take (length (now (us .entry))) (now (slots .entry))) ++ drop (length (now (us .entry))) (now (slots .entry)) ⌝ }
 {
