@@ -3,3 +3,4 @@ pub mod Clears
 pub mod Files
 pub mod Endings
 pub mod Packings
+pub mod Openings

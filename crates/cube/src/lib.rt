@@ -1,6 +1,8 @@
 // The cube file: coding order, body and the whole, and the answers of the public calls.
 pub mod clear;
 pub mod ending;
+pub mod look;
+pub mod open;
 pub mod pack;
 
 use settings::Refusal;
@@ -12,7 +14,7 @@ pub enum Packed {
     Refused(Refusal),
 }
 
-// What open and look answer: the settings, or a refusal.
+// What open answers: the settings, or a refusal.
 pub enum Opened {
     Settings(Settings),
     Refused(Refusal),

@@ -174,7 +174,7 @@ module _ (F : List Bool) (w : Refusal) where
   unfolding readHeader
   refused-at-accumulators S at d e = rw (d .before .before .before .image, d .before .before .predictor, d .before .weights, d .coder, e)
 
-header-got : (F : List Bool) (S : Settings) (at : ℕ) (t r : List Bool) (d : CoderDone F S at) → readAccumulators (S .image) (S .coder) (drop at F) ≡ got t r
+pub header-got : (F : List Bool) (S : Settings) (at : ℕ) (t r : List Bool) (d : CoderDone F S at) → readAccumulators (S .image) (S .coder) (drop at F) ≡ got t r
     → readHeader F ≡ got (record { settings = S; tables = tablesOf S (d .before .table) t }) r
 unfolding readHeader
 header-got F S at t r d e = rw (d .before .before .before .image, d .before .before .predictor, d .before .weights, d .coder, e)

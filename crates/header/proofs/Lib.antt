@@ -6,5 +6,6 @@ pub mod Answering
 pub mod SizeLaws
 pub mod TableReading
 pub mod HeaderReading
+pub mod StoreLaws
 pub mod Joins
 pub mod WriteLaws

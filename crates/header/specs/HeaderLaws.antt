@@ -139,7 +139,7 @@ header-read S tables r e h t =
 
 -- ---- what is read was written
 
-on-got : {A B Q : Type 0} (x : Read A) (f : A → List Bool → Read B) (b : B) (r : List Bool) → andThen x f ≡ got b r → ((a : A) (l : List Bool) → x ≡ got a l → f a l ≡ got b r → Q) → Q
+pub on-got : {A B Q : Type 0} (x : Read A) (f : A → List Bool → Read B) (b : B) (r : List Bool) → andThen x f ≡ got b r → ((a : A) (l : List Bool) → x ≡ got a l → f a l ≡ got b r → Q) → Q
 on-got (got a l) f b r e q = q a l refl e
 on-got (refused why) f b r e q = absurd-path (cc)
 

@@ -11,5 +11,6 @@ pub mod Write
 pub mod Writing
 pub mod Read
 pub mod Answers
+pub mod Storing
 pub mod ReadLaws
 pub mod HeaderLaws

@@ -3,4 +3,5 @@ pub mod fields;
 pub mod parts;
 pub mod read;
 pub mod sizes;
+pub mod store;
 pub mod write;

@@ -4,7 +4,8 @@
 //! The modules follow the data's way: `settings` and `header` say what the file
 //! is, `predictor` turns samples into mapped values, `coder` turns mapped values
 //! into codewords, and `cube` joins them into the four public calls. `case` reads
-//! and answers recorded calls, `make` invents new ones.
+//! and answers recorded calls, `make` and `shapes` invent new ones, and `feed` and
+//! `unfeed` turn calls into inputs of the proved programs and back.
 //!
 //! Nothing here is shared with the proved code. That is the point: two programs
 //! written apart from the same paper are compared by a run.
@@ -13,11 +14,14 @@ pub mod bits;
 pub mod case;
 pub mod coder;
 pub mod cube;
+pub mod feed;
 pub mod header;
 pub mod make;
 pub mod predictor;
 pub mod refusal;
 pub mod settings;
+pub mod shapes;
+pub mod unfeed;
 
 pub use cube::{length, look, open, pack, Answer};
 pub use refusal::Refusal;

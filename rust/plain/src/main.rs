@@ -5,13 +5,28 @@ use std::io::Write;
 use std::path::{Path, PathBuf};
 use std::process::ExitCode;
 
-use plain::case::{parse_case, split_cases};
+use plain::case::{parse_case, split_cases, Call, Case};
+use plain::feed::{call_name, fits, reopening, Changes, Feed, CALL_NAMES};
 use plain::make::{random_case, Random};
+use plain::shapes::header_shapes;
+use plain::unfeed::calls_of;
 
 const USAGE: &str = "\
 usage: plain answer CASE...            answers the calls of case files or directories
        plain check CASE...             compares the recorded answers with computed ones
-       plain make SEED COUNT [DIR]     makes random cases, in a directory or on the output";
+       plain make SEED COUNT [DIR]     makes random cases, in a directory or on the output
+       plain unfeed INPUT LINE         prints the case of a line of a feed's output
+       plain feed INPUT OUTPUT [OPTION...] [CASE...]
+                                       writes calls as input of the proved programs, and
+                                       the output that these must write
+  --calls NAME,NAME    takes only these calls of the cases: pack, length, open, look
+  --random SEED COUNT  adds so many random cases that fit
+  --headers SEED       adds a look at headers of every shape
+  --reopen             opens each packed file again
+  --flips BYTES        flips each bit of files up to this length
+  --cuts BYTES         cuts files up to this length at each length
+  --extensions         lengthens files by 1 to 9 bytes
+  --most BYTES         leaves out changes that would make the input longer";
 
 fn main() -> ExitCode {
     let arguments: Vec<String> = std::env::args().skip(1).collect();
@@ -21,6 +36,8 @@ fn main() -> ExitCode {
         ["check", paths @ ..] if !paths.is_empty() => check(paths),
         ["make", seed, count] => make(seed, count, None),
         ["make", seed, count, directory] => make(seed, count, Some(Path::new(directory))),
+        ["unfeed", input, line] => unfeed(input, line),
+        ["feed", input, output, words @ ..] => feed(input, output, words),
         _ => Err(USAGE.to_string()),
     };
     match done {
@@ -130,5 +147,142 @@ fn make(seed: &str, count: &str, directory: Option<&Path>) -> Result<bool, Strin
             None => print(&format!("{text}\n")),
         }
     }
+    Ok(true)
+}
+
+/// What a feed is made of.
+#[derive(Default)]
+struct FeedOptions<'a> {
+    /// The calls to take of the cases; none: all.
+    calls: Vec<&'a str>,
+    /// Seed and count of random cases.
+    random: Option<(u64, usize)>,
+    /// The seed of headers of every shape.
+    headers: Option<u64>,
+    reopen: bool,
+    changes: Changes,
+    most: Option<usize>,
+    paths: Vec<&'a str>,
+}
+
+impl<'a> FeedOptions<'a> {
+    fn parse(mut words: &[&'a str]) -> Result<FeedOptions<'a>, String> {
+        let mut options = FeedOptions::default();
+        loop {
+            words = match words {
+                [] => return Ok(options),
+                ["--calls", names, rest @ ..] => {
+                    options.calls = call_names(names)?;
+                    rest
+                }
+                ["--random", seed, count, rest @ ..] => {
+                    options.random = Some((number(seed)?, number(count)?));
+                    rest
+                }
+                ["--headers", seed, rest @ ..] => {
+                    options.headers = Some(number(seed)?);
+                    rest
+                }
+                ["--flips", bytes, rest @ ..] => {
+                    options.changes.flips = number(bytes)?;
+                    rest
+                }
+                ["--cuts", bytes, rest @ ..] => {
+                    options.changes.cuts = number(bytes)?;
+                    rest
+                }
+                ["--most", bytes, rest @ ..] => {
+                    options.most = Some(number(bytes)?);
+                    rest
+                }
+                [word, rest @ ..] => {
+                    options.take_word(word)?;
+                    rest
+                }
+            };
+        }
+    }
+
+    /// An option without a value, or a path.
+    fn take_word(&mut self, word: &'a str) -> Result<(), String> {
+        match word {
+            "--reopen" => self.reopen = true,
+            "--extensions" => self.changes.extensions = true,
+            option if option.starts_with("--") => return Err(USAGE.to_string()),
+            path => self.paths.push(path),
+        }
+        Ok(())
+    }
+
+    /// Whether a call of the cases is to be taken.
+    fn takes(&self, call: &Call) -> bool {
+        self.calls.is_empty() || self.calls.contains(&call_name(call))
+    }
+
+    /// Adds a call, and if asked the file that it packs, opened again and changed.
+    fn add(&self, feed: &mut Feed, call: &Call) {
+        if feed.add(call) && self.reopen {
+            if let Some(opening) = reopening(call) {
+                feed.add_changed(&opening, &self.changes, self.most.unwrap_or(usize::MAX));
+            }
+        }
+    }
+}
+
+/// The calls that a list names.
+fn call_names(list: &str) -> Result<Vec<&str>, String> {
+    let names: Vec<&str> = list.split(',').collect();
+    match names.iter().find(|name| !CALL_NAMES.contains(name)) {
+        Some(name) => Err(format!("there is no call {name}")),
+        None => Ok(names),
+    }
+}
+
+fn number<T: std::str::FromStr>(word: &str) -> Result<T, String> {
+    word.parse().map_err(|_| format!("{word} is no number"))
+}
+
+fn feed(input: &str, output: &str, words: &[&str]) -> Result<bool, String> {
+    let options = FeedOptions::parse(words)?;
+    let mut feed = Feed::default();
+    for Named { name, text } in read_cases(&options.paths)? {
+        let (case, _) = parse_case(&text).map_err(|error| format!("{name}: {error}"))?;
+        if options.takes(&case.call) {
+            options.add(&mut feed, &case.call);
+        }
+    }
+    if let Some((seed, count)) = options.random {
+        let mut random = Random::new(seed);
+        let drawn = std::iter::repeat_with(|| random_case(&mut random).call);
+        let taken = drawn.filter(|call| options.takes(call) && fits(call));
+        taken
+            .take(count)
+            .for_each(|call| options.add(&mut feed, &call));
+    }
+    for file in options.headers.map(header_shapes).unwrap_or_default() {
+        let call = Call::Look { file };
+        feed.add_changed(&call, &options.changes, options.most.unwrap_or(usize::MAX));
+    }
+    let summary = feed.summary();
+    let (bytes, lines) = feed.finish();
+    for (path, contents) in [(input, bytes), (output, lines.into_bytes())] {
+        fs::write(path, contents).map_err(|error| format!("{path}: {error}"))?;
+    }
+    print(&format!("{summary}\n"));
+    Ok(true)
+}
+
+fn unfeed(input: &str, line: &str) -> Result<bool, String> {
+    let index: usize = number(line)?;
+    let bytes = fs::read(input).map_err(|error| format!("{input}: {error}"))?;
+    let calls = calls_of(&bytes).map_err(|error| format!("{input}: {error}"))?;
+    let call = index.checked_sub(1).and_then(|index| calls.get(index));
+    let case = Case {
+        note: format!("line {line}"),
+        call: call
+            .ok_or(format!("{input} has {} calls", calls.len()))?
+            .clone(),
+    };
+    print(&(case.inputs_text() + &case.answer_text()));
     Ok(true)
 }

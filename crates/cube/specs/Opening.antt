@@ -1,0 +1,47 @@
+-- The reader's answer from what its body and its end came to.
+use mathlib.Core.Path.{_≡_}
+use mathlib.Core.Bool.{Bool, true, false}
+use mathlib.Core.List.{List}
+use Prim.Native.Nat.{ℕ, _*_, _^_, _≤_}
+use lib.IntN.{ℤ}
+use lib.ListN.{length, drop}
+use Rattle.settings.specs.declared.Settings.{Settings}
+use Rattle.settings.specs.declared.Refusal.the-variants.{BodyEnds, BadCodeword, AfterEnd}
+use Rattle.settings.specs.Legal.{sampleCount, settingsLegal, limited}
+use Rattle.settings.specs.CheckLaws.{Roomy}
+use Rattle.header.specs.Answers.{Begins}
+use Rattle.body_reader.specs.declared.Gone.{Gone}
+use Rattle.body_reader.specs.declared.Gone.the-variants as gone
+use Rattle.cube.specs.declared.Opened.{Opened}
+use Rattle.cube.specs.declared.Opened.the-variants as opening
+use Rattle.cube.specs.declared.ending.Ending.{Ending}
+use Rattle.cube.specs.declared.ending.Ending.the-variants.{Whole, TooShort, Behind}
+use Rattle.cube.specs.Ending.{endOf}
+
+-- the answer for each ending
+unfoldable pub endAnswer : Settings → Ending → Opened
+endAnswer S Whole = opening.Settings S
+endAnswer S TooShort = opening.Refused (BodyEnds (sampleCount (S .image)))
+endAnswer S Behind = opening.Refused (AfterEnd (sampleCount (S .image)))
+
+-- and for what the body came to
+unfoldable pub answerOf : Settings → List Bool → Gone → Opened
+answerOf S F (gone.At a) = endAnswer S (endOf (S .image .word) a (drop a F))
+answerOf S F (gone.Short rank) = opening.Refused (BodyEnds rank)
+answerOf S F (gone.Bad rank) = opening.Refused (BadCodeword rank)
+
+unfoldable pub isRefused : Opened → Bool
+isRefused (opening.Settings S) = false
+isRefused (opening.Refused w) = true
+
+-- the position behind the body lies in the file
+abbrev pub Reached : List Bool → Gone → Type 0
+Reached F (gone.At a) = (a ≤ length F) × (a ≤ 2 ^ 60)
+Reached F (gone.Short rank) = Unit {0}
+Reached F (gone.Bad rank) = Unit {0}
+
+-- a header was read, and memory enough is lent
+pub record Lendable (F : List Bool) (S : Settings) (at : ℕ) (scratch tables image : List ℤ) : Type 0 where
+  pub begins : Begins F S at
+  pub room : sampleCount (S .image) ≤ length image
+  pub areas : Roomy S (length scratch) (length tables)

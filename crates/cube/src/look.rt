@@ -1,0 +1,23 @@
+// The look: the settings alone, read off the header; nothing behind it is looked at.
+ghost use mathlib.Core.Path.{_≡_};
+ghost use Rattle.cube.specs.Look.{looked};
+use header::read::HeaderRead;
+use header::read::read_header;
+use settings::Refusal;
+use settings::Settings;
+
+// What the look answers.
+pub enum Looked {
+    Settings(Settings),
+    Refused(Refusal),
+}
+
+// The settings of a file, or why its header is refused.
+pub fn look(file: &[u8]) -> Looked
+    ensures { λ r. ⌜ r ≡ looked (now (file .entry)) ⌝ }
+{
+    match read_header(file) {
+        HeaderRead::Header(settings, _) => Looked::Settings(settings),
+        HeaderRead::Refused(why) => Looked::Refused(why),
+    }
+}

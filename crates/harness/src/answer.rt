@@ -1,0 +1,71 @@
+// The calls themselves, each with the line that it writes. The areas have just the lengths that the call is to see.
+// Scratch is never prepared: a call finds there what the one before it left, which must not change an answer.
+use super::areas::prepare_bytes;
+use super::calls::Looked;
+use super::calls::Packed;
+use super::calls::length;
+use super::calls::look;
+use super::calls::pack;
+use super::hash;
+use super::lines::line;
+use super::parse::SETTINGS_BYTES;
+use super::parse::settings;
+use super::words::read_slots;
+use settings::Settings;
+use settings::refusals::number;
+use settings::refusals::value;
+
+// The whole output is hashed, not only the file: what lies behind it must be as it was.
+fn run_pack(s: Settings, tables: &[i32], samples: &[i32], scratch: &mut [i32], out: &mut [u8]) {
+    prepare_bytes(out);
+    match pack(s, tables, samples, scratch, out) {
+        Packed::Length(count) => line(b"pack", 0, count, hash::bytes(0, out)),
+        Packed::Refused(r) => line(b"pack", number(r), value(r), hash::bytes(0, out)),
+    }
+}
+
+// Nothing is lent but scratch, so there is nothing to hash.
+fn run_length(s: Settings, tables: &[i32], samples: &[i32], scratch: &mut [i32]) {
+    match length(s, tables, samples, scratch) {
+        Packed::Length(count) => line(b"length", 0, count, 0),
+        Packed::Refused(r) => line(b"length", number(r), value(r), 0),
+    }
+}
+
+// The settings alone are hashed.
+fn run_look(file: &[u8]) {
+    match look(file) {
+        Looked::Settings(s) => line(b"look", 0, 0, hash::settings(0, s)),
+        Looked::Refused(r) => line(b"look", number(r), value(r), 0),
+    }
+}
+
+// A pack or a length of what was read.
+pub fn run_writer(
+    kind: u32,
+    input: &[u8],
+    tables: &mut [i32],
+    samples: &mut [i32],
+    scratch: &mut [i32],
+    out: &mut [u8],
+) {
+    let s = settings(input);
+    let from = read_slots(input, SETTINGS_BYTES, tables);
+    read_slots(input, from, samples);
+    if kind == 1 {
+        run_pack(s, tables, samples, scratch, out);
+    } else {
+        run_length(s, tables, samples, scratch);
+    }
+}
+
+// A look. An open will use the areas too.
+pub fn run_reader(
+    kind: u32,
+    file: &[u8],
+    scratch: &mut [i32],
+    tables: &mut [i32],
+    image: &mut [i32],
+) {
+    run_look(file);
+}

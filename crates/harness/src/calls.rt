@@ -1,0 +1,6 @@
+// The one place that names the public calls and what they answer.
+pub use cube::Packed;
+pub use cube::look::Looked;
+pub use cube::look::look;
+pub use cube::pack::length;
+pub use cube::pack::pack;

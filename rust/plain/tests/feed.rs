@@ -1,0 +1,331 @@
+//! The feeds of the proved programs: the format both ways, the lines, the changes.
+
+use plain::case::{parse_case, Call, WriterInputs};
+use plain::feed::{
+    answer_line, call_name, fits, reopening, Change, Changes, Feed, Hash, HEAD_BYTES, PADDING,
+};
+use plain::make::{random_case, random_inputs, Random};
+use plain::shapes::header_shapes;
+use plain::unfeed::calls_of;
+use plain::Settings;
+
+mod common;
+
+#[test]
+fn what_is_written_reads_back() {
+    let mut random = Random::new(3);
+    let mut feed = Feed::default();
+    let mut added = Vec::new();
+    for _ in 0..400 {
+        let call = random_case(&mut random).call;
+        if feed.add(&call) {
+            assert!(fits(&call));
+            added.push(call);
+        }
+    }
+    let counts = feed.counts();
+    assert_eq!(counts.left_out, 400 - added.len());
+    let count = |name| added.iter().filter(|call| call_name(call) == name).count();
+    assert_eq!(counts.pack, count("pack"));
+    assert_eq!(counts.length, count("length"));
+    assert_eq!(counts.open, count("open"));
+    assert_eq!(counts.look, count("look"));
+    assert_eq!(counts.changed, 0);
+    let (input, output) = feed.finish();
+    assert_eq!(calls_of(&input), Ok(added.clone()));
+    let lines: String = added.iter().map(answer_line).collect();
+    assert_eq!(output, lines);
+}
+
+/// A head, by its words.
+fn head(words: [u32; 5]) -> Vec<u8> {
+    words.iter().flat_map(|word| word.to_be_bytes()).collect()
+}
+
+#[test]
+fn the_format_is_as_documented() {
+    let mut feed = Feed::default();
+    let look = Call::Look {
+        file: vec![0xAB, 0xCD],
+    };
+    let changes = Changes {
+        flips: 0,
+        cuts: 2,
+        extensions: false,
+    };
+    feed.add_changed(&look, &changes, usize::MAX);
+    let mut inputs = common::inputs(common::worked_settings(1), &[-2]);
+    inputs.tables = vec![i32::MIN];
+    assert!(feed.add(&Call::Pack { inputs, out: 5 }));
+    let mut expected = head([4, 2, 0, 0, 0]);
+    expected.extend([0xAB, 0xCD, 0, 0, 0, 0, 0, 0, 0, 0, 0]);
+    expected.extend(head([5, 0, 0xAB, 0, 0]));
+    expected.extend(head([5, 0, 0xAB, 1, 0]));
+    expected.extend(head([1, 32, 1, 1, 5]));
+    for slot in common::worked_settings(1).to_slots() {
+        expected.extend(slot.to_be_bytes());
+    }
+    expected.extend([0x80, 0, 0, 0, 0xFF, 0xFF, 0xFF, 0xFE]);
+    expected.extend(head([0; 5]));
+    assert_eq!(feed.finish().0, expected);
+}
+
+#[test]
+fn what_is_no_feed_is_no_feed() {
+    for words in [[6, 0, 0, 0, 0], [5, 0, 0, 0, 0], [4, 1, 0, 0, 0]] {
+        assert!(calls_of(&head(words)).is_err());
+    }
+    assert!(calls_of(&[]).is_err());
+    assert!(calls_of(&[0; HEAD_BYTES + 1]).is_err());
+    let mut input = head([4, 0, 0, 0, 0]);
+    input.extend([0; PADDING]);
+    for words in [[5, 9, 0, 0, 0], [5, 0, 256, 0, 0], [5, 0, 0, 10, 0]] {
+        let changed = [input.clone(), head(words), head([0; 5])].concat();
+        assert!(calls_of(&changed).is_err());
+    }
+    assert_eq!(
+        calls_of(&[input, head([0; 5])].concat()).map(|calls| calls.len()),
+        Ok(1)
+    );
+}
+
+#[test]
+fn changes_are_those_that_were_asked_for() {
+    let file = [0x12, 0x34, 0x56];
+    let all = Changes {
+        flips: 3,
+        cuts: 3,
+        extensions: true,
+    };
+    let changes = all.of(&file);
+    assert_eq!(changes.len(), 24 + 3 + 18);
+    let files: Vec<Vec<u8>> = changes.iter().map(|change| change.apply(&file)).collect();
+    for (index, changed) in files[..24].iter().enumerate() {
+        let mut flipped = file;
+        flipped[index / 8] ^= 0x80 >> (index % 8);
+        assert_eq!(changed, &flipped);
+    }
+    assert_eq!(files[24..27], [&file[..0], &file[..1], &file[..2]]);
+    for (index, changed) in files[27..].iter().enumerate() {
+        let mut longer = file.to_vec();
+        longer.resize(3 + 1 + index / 2, 0);
+        if index % 2 == 1 {
+            *longer.last_mut().expect("a byte") = 1;
+        }
+        assert_eq!(changed, &longer);
+    }
+    let short = Changes {
+        flips: 2,
+        cuts: 2,
+        extensions: false,
+    };
+    assert!(short.of(&file).is_empty());
+    let of_nothing = all.of(&[]);
+    assert_eq!(of_nothing.len(), 18);
+    let zero = Change {
+        place: 0,
+        byte: 0,
+        length: 1,
+    };
+    assert_eq!(of_nothing[0], zero);
+}
+
+#[test]
+fn changed_files_read_back_and_stop_at_the_cap() {
+    let inputs = random_inputs(&mut Random::new(5));
+    let length = inputs.length().expect("legal inputs") as usize;
+    let pack = Call::Pack {
+        inputs,
+        out: length + 3,
+    };
+    let open = reopening(&pack).expect("a file");
+    let Call::Open { file, .. } = &open else {
+        panic!("an open");
+    };
+    assert_eq!(file.len(), length);
+    let changes = Changes {
+        flips: length,
+        cuts: length,
+        extensions: true,
+    };
+    let mut feed = Feed::default();
+    feed.add_changed(&open, &changes, usize::MAX);
+    assert_eq!(feed.counts().changed, 9 * length + 18);
+    let (input, output) = feed.finish();
+    let calls = calls_of(&input).expect("a feed");
+    assert_eq!(calls.len(), 1 + 9 * length + 18);
+    let lines: String = calls.iter().map(answer_line).collect();
+    assert_eq!(output, lines);
+    let most = length + PADDING + 5 * HEAD_BYTES;
+    let mut feed = Feed::default();
+    feed.add_changed(&open, &changes, most);
+    assert_eq!(feed.counts().changed, 3);
+    assert_eq!(feed.counts().left_out, 9 * length + 15);
+    assert_eq!(feed.finish().0.len(), most);
+}
+
+/// The polynomial by powers of its base, in wide numbers.
+fn hash_of(words: &[u32]) -> u64 {
+    let modulus = u128::from(Hash::MODULUS);
+    let mut power = 1;
+    let mut sum = 0;
+    for &word in words.iter().rev() {
+        sum += (u128::from(word) + 1) * power % modulus;
+        power = power * u128::from(Hash::BASE) % modulus;
+    }
+    (sum % modulus) as u64
+}
+
+fn is_prime(number: u64) -> bool {
+    (2..)
+        .take_while(|divisor| divisor * divisor <= number)
+        .all(|divisor| !number.is_multiple_of(divisor))
+}
+
+#[test]
+fn the_hash_is_the_polynomial() {
+    assert!(is_prime(Hash::MODULUS) && is_prime(Hash::BASE));
+    let slots = [0, -1, i32::MIN, i32::MAX, 5, -5, 0, 0];
+    let words: Vec<u32> = slots.iter().map(|&slot| slot as u32).collect();
+    assert_eq!(Hash::default().slots(&slots).0, hash_of(&words));
+    let bytes = [0, 255, 7];
+    assert_eq!(Hash::default().bytes(&bytes).0, hash_of(&[0, 255, 7]));
+    assert_ne!(hash_of(&[0]), hash_of(&[]));
+    assert_ne!(hash_of(&[0, 0]), hash_of(&[0]));
+}
+
+#[test]
+fn lines_say_what_the_call_gave() {
+    let inputs = common::inputs(common::worked_settings(1), &[130]);
+    let file = common::packed(&inputs);
+    let mut area: Vec<u32> = file.iter().map(|&byte| u32::from(byte)).collect();
+    area.push(0xA5);
+    let pack = |out| Call::Pack {
+        inputs: inputs.clone(),
+        out,
+    };
+    let hash = hash_of(&area);
+    assert_eq!(answer_line(&pack(21)), format!("pack 0 20 {hash:x}\n"));
+    let zeros = hash_of(&[0; 19]);
+    assert_eq!(answer_line(&pack(19)), format!("pack 6 20 {zeros:x}\n"));
+    let length = Call::Length { inputs };
+    assert_eq!(answer_line(&length), "length 0 20 0\n");
+    let mut slots = vec![0; 19];
+    slots.push(130);
+    let settings = common::worked_settings(1).to_slots();
+    slots.extend(settings.map(|slot| slot as u32));
+    let open = |image_area| Call::Open {
+        file: file.clone(),
+        scratch: 32,
+        table_area: 19,
+        image_area,
+    };
+    let hash = hash_of(&slots);
+    assert_eq!(answer_line(&open(1)), format!("open 0 0 {hash:x}\n"));
+    let before = hash_of(&[-123_456_789_i32 as u32; 19]);
+    assert_eq!(answer_line(&open(0)), format!("open 3 0 {before:x}\n"));
+    let hash = hash_of(&slots[20..]);
+    let look = Call::Look { file: file.clone() };
+    assert_eq!(answer_line(&look), format!("look 0 0 {hash:x}\n"));
+    let look = Call::Look {
+        file: file[..18].to_vec(),
+    };
+    assert_eq!(answer_line(&look), "look 7 0 0\n");
+}
+
+#[test]
+fn calls_that_the_programs_cannot_hold_are_left_out() {
+    let legal = common::inputs(common::worked_settings(1), &[130]);
+    let fits_with = |change: fn(&mut WriterInputs)| {
+        let mut inputs = legal.clone();
+        change(&mut inputs);
+        fits(&Call::Length { inputs })
+    };
+    assert!(fits_with(|_| {}));
+    // A negative number is a word far beyond what is legal, so the answer is the same.
+    assert!(fits_with(|inputs| inputs.settings.x_size = -1));
+    assert!(!fits_with(|inputs| inputs.settings.user_data = 256));
+    assert!(!fits_with(|inputs| inputs.settings.signed_samples = 2));
+    assert!(!fits_with(|inputs| inputs.scratch = 2_113));
+    assert!(!fits_with(|inputs| inputs.tables = vec![0; 1_281]));
+    assert!(!fits_with(|inputs| inputs.samples = vec![0; 4_097]));
+    let mut feed = Feed::default();
+    let file = vec![0; 16_385];
+    assert!(!feed.add(&Call::Look { file }));
+    assert_eq!(feed.counts().left_out, 1);
+    assert_eq!(feed.finish(), (vec![0; HEAD_BYTES], String::new()));
+}
+
+#[test]
+fn header_shapes_have_every_table_and_end() {
+    let headers = header_shapes(1);
+    assert_eq!(headers, header_shapes(1));
+    assert_ne!(headers, header_shapes(2));
+    assert_eq!(headers.len(), 100);
+    let answers: Vec<_> = headers.iter().map(|file| plain::look(file)).collect();
+    let refused = |number| {
+        let is_it = |answer: &&Result<Settings, plain::Refusal>| {
+            answer.is_err_and(|refusal| refusal.number() == number)
+        };
+        answers.iter().filter(is_it).count()
+    };
+    // Four sizes lie beyond a house limit, and nothing else is refused.
+    assert_eq!(refused(4), 16);
+    let looked: Vec<Settings> = answers.iter().flatten().copied().collect();
+    assert_eq!(looked.len(), 84);
+    for custom in 0..2 {
+        for table in 0..2 {
+            let is_it = |settings: &&Settings| {
+                (settings.custom_weights, settings.accumulator_table) == (custom, table)
+            };
+            assert_eq!(looked.iter().filter(is_it).count(), 21);
+        }
+    }
+    assert!(looked.iter().any(|settings| settings.x_size == 65_536));
+    assert!(looked.iter().any(|settings| settings.z_size == 512));
+    let is_empty_table = |settings: &Settings| {
+        settings.custom_weights == 1 && settings.reduced_mode == 1 && settings.prediction_bands == 0
+    };
+    assert!(looked.iter().any(is_empty_table));
+}
+
+/// Runs the program, and gives its status and what it wrote.
+fn plain(words: &[&str]) -> (Option<i32>, String) {
+    let run = std::process::Command::new(env!("CARGO_BIN_EXE_plain"))
+        .args(words)
+        .output()
+        .expect("the program runs");
+    let text = String::from_utf8(run.stdout).expect("text");
+    (run.status.code(), text)
+}
+
+/// A case as `unfeed` prints it, which knows no note but the line.
+fn noted(text: &str, line: usize) -> String {
+    text.replacen("note legal\n", &format!("note line {line}\n"), 1)
+}
+
+#[test]
+fn the_command_line_feeds() {
+    let manifest = env!("CARGO_MANIFEST_DIR");
+    let directory = env!("CARGO_TARGET_TMPDIR");
+    let (input, output) = (format!("{directory}/fed"), format!("{directory}/answered"));
+    let run = |options: &[&str]| plain(&[&["feed", &input, &output], options].concat());
+    let case = format!("{manifest}/vectors/0000.case");
+    let said = "1 pack, 0 length, 1 open, 0 look, 18 changed, 0 left out\n";
+    let done = run(&["--reopen", "--extensions", &case]);
+    assert_eq!(done, (Some(0), said.to_string()));
+    let calls = calls_of(&std::fs::read(&input).expect("the input")).expect("a feed");
+    let text = std::fs::read_to_string(&case).expect("a case");
+    assert_eq!(calls[0], parse_case(&text).expect("a case").0.call);
+    let lines: String = calls.iter().map(answer_line).collect();
+    let written = std::fs::read_to_string(&output).expect("the output");
+    assert_eq!(written, lines);
+    assert_eq!(plain(&["unfeed", &input, "1"]), (Some(0), noted(&text, 1)));
+    assert_eq!(plain(&["unfeed", &input, "0"]).0, Some(2));
+    assert_eq!(plain(&["unfeed", &input, "21"]).0, Some(2));
+    let said = "0 pack, 0 length, 0 open, 9 look, 0 changed, 0 left out\n";
+    let done = run(&["--calls", "look", "--random", "1", "9", &case]);
+    assert_eq!(done, (Some(0), said.to_string()));
+    assert_eq!(run(&["--calls", "close"]).0, Some(2));
+    assert_eq!(run(&["--close"]).0, Some(2));
+}
