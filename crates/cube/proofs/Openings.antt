@@ -1,19 +1,21 @@
 -- What opening comes to, step by step behind the header.
 use mathlib.Core.Path.{_≡_, refl, sym, _∙_, ap, subst}
-use mathlib.Core.Bool.{Bool, true, false, cond}
+use mathlib.Core.Bool.{Bool, true, false, cond, false≢true}
 use mathlib.Core.List.{List, [], _∷_, _++_}
 use Prim.Native.Nat.{ℕ, _+_, _-_, _*_, _^_, _<_, _≤_}
 use native.Mathlib.Omega.{arith}
 use lib.IntN.{ℤ, pos}
-use lib.ListN.{length, drop, replicate, length-drop}
+use lib.ListN.{length, take, drop, replicate, length-take, length-drop, length-append, length-replicate}
+use lib.Seq.{take-at, drop-at}
 use lib.Dec.{ltb}
 use borrow.Author.Tests.{le-ltb, lt-ltb}
 use Rattle.bitstream.specs.Stream.{unpack}
 use Rattle.settings.specs.declared.Settings.{Settings}
 use Rattle.settings.specs.declared.Refusal.{Refusal}
-use Rattle.settings.specs.declared.Refusal.the-variants.{WrongCount, ShortArea}
+use Rattle.settings.specs.declared.Refusal.the-variants.{WrongCount, ShortArea, BodyEnds, BadCodeword, AfterEnd}
 use Rattle.settings.specs.Legal.{sampleCount, settingsLegal, limited}
-use Rattle.settings.specs.LegalLaws.{legal-settings, count-fits}
+use Rattle.settings.specs.LegalLaws.{legal-settings, limited-facts, count-fits}
+use Rattle.settings.specs.Tables.{stride, tablesLegal}
 use Rattle.settings.specs.Checks.{firstHit, areasShort}
 use Rattle.settings.specs.CheckLaws.{Roomy, roomy-of}
 use Rattle.settings.specs.Reading.{Read, got, refused, andThen}
@@ -21,18 +23,28 @@ use Rattle.settings.specs.ReadingLaws.{passes, no-test}
 use Rattle.header.specs.Read.{Header, readHeader}
 use Rattle.header.specs.HeaderLaws.{HeaderIs, read-header}
 use Rattle.header.specs.Answers.{Begins}
+use Rattle.header.specs.Write.{header}
 use Rattle.body.specs.Order.{order}
-use Rattle.body.specs.Body.{readBody}
+use Rattle.body.specs.OrderLaws.{inside-order, sorted-order}
+use Rattle.body.specs.BodyLaws.{places-written}
+use Rattle.body.specs.declared.plan.Plan.{Plan}
+use Rattle.body.specs.Plan.{planOf}
+use Rattle.body_reader.specs.Walk.{Starts, Answer}
+use Rattle.predictor.specs.Differences.{imageOf}
+use Rattle.body.specs.Body.{codes, readBody}
 use Rattle.cube.specs.declared.Opened.{Opened}
 use Rattle.cube.specs.declared.Opened.the-variants as opening
 use Rattle.cube.specs.declared.ending.Ending.{Ending}
+use Rattle.cube.specs.declared.ending.Ending.the-variants.{Whole, TooShort, Behind}
 use Rattle.cube.specs.Open.{Cube, Lent, atEnd, behindHeader, openedBits, opened}
 use Rattle.cube.specs.Ending.{endOf, ended, at-end-is}
-use Rattle.cube.specs.Opening.{endAnswer, answerOf}
+use Rattle.cube.specs.Opening.{endAnswer, answerOf, isRefused, Reached, Lendable}
 use Rattle.body_reader.specs.declared.Gone.{Gone}
 use Rattle.body_reader.specs.declared.Gone.the-variants as gone
 use Rattle.cube.specs.Areas.{clears, openAnswer, imageAfter, tablesAfter, lentOf, Opens}
 use Rattle.cube.specs.ValueLaws.{header-keeps}
+use Rattle.cube.specs.FileLaws.{zeros-good, deep}
+use Rattle.cube.specs.SizeLaws.{header-small, codes-small}
 
 -- ---- an answer and its areas
 
@@ -148,3 +160,193 @@ module _ (bytes : List ℕ) (scratch tables image : List ℤ) (S : Settings) (at
 pub answered : (S : Settings) (F : List Bool) (g : Gone) (a : ℕ) (x e : Ending) → g ≡ gone.At a → x ≡ endOf (S .image .word) a (drop a F) → x ≡ e → endAnswer S e ≡ answerOf S F g
 unfolding answerOf
 answered S F g a x e p q r = ap (endAnswer S) (sym r ∙ q) ∙ sym (ap (answerOf S F) p)
+
+-- ---- what opening comes to
+
+-- what body and end came to, g with the samples x, settles the whole
+pub record Outcome (bytes : List ℕ) (lent : Lent) (S : Settings) (T x : List ℤ) (g : Gone) : Type 0 where
+  pub reached : Reached (unpack bytes) g
+  pub answer : answerOf S (unpack bytes) g ≡ openAnswer (opened lent bytes)
+  pub whole : isRefused (answerOf S (unpack bytes) g) ≡ false → opened lent bytes ≡ got (record { settings = S; tables = T; samples = x }) []
+  pub refusal : isRefused (answerOf S (unpack bytes) g) ≡ true → (w : Refusal) × (opened lent bytes ≡ refused w) × (clears w ≡ true)
+
+module _ (bytes : List ℕ) (scratch tables image : List ℤ) (h : Header) (at : ℕ) (e : readHeader (unpack bytes) ≡ got h (drop at (unpack bytes))) (fits : at ≤ length (unpack bytes))
+    (room : sampleCount (h .settings .image) ≤ length image) (roomy : Roomy (h .settings) (length scratch) (length tables)) where
+  -- the three endings
+  by-end : (x : List ℤ) (a : ℕ) (E : Ending) → Reached (unpack bytes) (gone.At a) → endOf (h .settings .image .word) a (drop a (unpack bytes)) ≡ E
+      → opened (lentOf scratch tables image) bytes ≡ ended h x E → Outcome bytes (lentOf scratch tables image) (h .settings) (h .tables) x (gone.At a)
+  unfolding answerOf endAnswer isRefused openAnswer ended clears
+  by-end x a Whole r k o = record {
+    reached = r;
+    answer = ap (endAnswer (h .settings)) k ∙ sym (ap openAnswer o);
+    whole = λ _. o;
+    refusal = λ q. let z : false ≡ true = sym (ap (λ (E : Ending). isRefused (endAnswer (h .settings) E)) k) ∙ q in absurd (false≢true z);
+  }
+  by-end x a TooShort r k o = record {
+    reached = r;
+    answer = ap (endAnswer (h .settings)) k ∙ sym (ap openAnswer o);
+    whole = λ q. let z : true ≡ false = sym (ap (λ (E : Ending). isRefused (endAnswer (h .settings) E)) k) ∙ q in absurd (false≢true (sym z));
+    refusal = λ _. (BodyEnds (sampleCount (h .settings .image)), o, refl);
+  }
+  by-end x a Behind r k o = record {
+    reached = r;
+    answer = ap (endAnswer (h .settings)) k ∙ sym (ap openAnswer o);
+    whole = λ q. let z : true ≡ false = sym (ap (λ (E : Ending). isRefused (endAnswer (h .settings) E)) k) ∙ q in absurd (false≢true (sym z));
+    refusal = λ _. (AfterEnd (sampleCount (h .settings .image)), o, refl);
+  }
+
+  abbrev known : HeaderIs h (unpack bytes) (drop at (unpack bytes))
+  known = read-header (unpack bytes) (drop at (unpack bytes)) h e
+
+  -- the header ends early in the file
+  pub position-small : at ≤ 2 ^ 18
+  position-small =
+      let l = ap length (known .same) ∙ length-append (header (h .settings) (h .tables)) (drop at (unpack bytes)) in
+      let d = length-drop at (unpack bytes) in
+      let s = header-small (h .settings) (h .tables) (legal-settings (h .settings) (known .legal)) (limited-facts (h .settings .image) (known .limited) .few-bands) in
+      omega arith
+
+  -- and so does the body, where it is read
+  body-position : (x : List ℤ) (a : ℕ) → a ≤ length (unpack bytes)
+      → readBody (h .settings) (h .tables) 0 (order (h .settings .image)) (replicate (sampleCount (h .settings .image)) (pos 0)) (drop at (unpack bytes)) ≡ got x (drop a (unpack bytes)) → a ≤ 2 ^ 60
+  body-position x a l k =
+      let L = legal-settings (h .settings) (known .legal) .image in
+      let deep : 1 ≤ h .settings .image .depth = let d = L .depth-least in omega arith in
+      let w = places-written (h .settings) (h .tables) (L .nx-least) deep 0 _ x (order (h .settings .image)) (drop at (unpack bytes)) (drop a (unpack bytes))
+      (zeros-good (h .settings) deep) (inside-order (h .settings .image)) (sorted-order (h .settings .image)) k in
+      let c : List Bool = codes (h .settings) (h .tables) (imageOf (h .settings .image) x) (order (h .settings .image)) in
+      let n : length (drop at (unpack bytes)) ≡ length c + length (drop a (unpack bytes)) = ap length (w .same) ∙ length-append c (drop a (unpack bytes)) in
+      let b = codes-small (h .settings) (h .tables) x (known .legal) (known .limited) in
+      let p = length-drop at (unpack bytes) in
+      let q = length-drop a (unpack bytes) in
+      let s = position-small in
+      omega arith
+
+  pub outcome : (x : List ℤ) (g : Gone) → Answer (h .settings) (h .tables) (unpack bytes) at (replicate (sampleCount (h .settings .image)) (pos 0)) x g
+      → Outcome bytes (lentOf scratch tables image) (h .settings) (h .tables) x g
+  unfolding answerOf isRefused openAnswer clears
+  outcome x (gone.At a) w =
+      let l : a ≤ length (unpack bytes) = w .inside fits in
+      by-end x a (endOf (h .settings .image .word) a (drop a (unpack bytes))) (l, body-position x a l (w .read)) refl
+      (arrived bytes scratch tables image h at e room roomy x a l (w .read))
+  outcome x (gone.Short r) w =
+      let o = stopped bytes scratch tables image h at e room roomy (BodyEnds r) w in
+      record {
+        reached = tt;
+        answer = sym (ap openAnswer o);
+        whole = λ q. absurd (false≢true (sym q));
+        refusal = λ _. (BodyEnds r, o, refl);
+      }
+  outcome x (gone.Bad r) w =
+      let o = stopped bytes scratch tables image h at e room roomy (BadCodeword r) w in
+      record {
+        reached = tt;
+        answer = sym (ap openAnswer o);
+        whole = λ q. absurd (false≢true (sym q));
+        refusal = λ _. (BadCodeword r, o, refl);
+      }
+
+-- ---- the areas on the way
+
+-- a part that the list has
+pub part-long : (n : ℕ) (l : List ℤ) → n ≤ length l → n ≡ length (take n l)
+part-long n l h = let t = length-take n l in omega arith
+
+module _ (bytes : List ℕ) (scratch tables image : List ℤ) (S : Settings) (at : ℕ) (L : Lendable (unpack bytes) S at scratch tables image) where
+  abbrev b : Begins (unpack bytes) S at
+  b = L .begins
+
+  abbrev h : Header
+  h = b .header
+
+  abbrev m : ℕ
+  m = stride * S .image .nz
+
+  h-is : HeaderIs h (unpack bytes) (drop at (unpack bytes))
+  h-is = read-header (unpack bytes) (drop at (unpack bytes)) h (b .read)
+
+  h-long : length (h .tables) ≡ m
+  h-long = h-is .long ∙ ap (λ (T : Settings). stride * T .image .nz) (b .settings)
+
+  h-entries : tablesLegal S (h .tables) ≡ true
+  h-entries = ap (λ (T : Settings). tablesLegal T (h .tables)) (sym (b .settings)) ∙ h-is .entries
+
+  h-room : sampleCount (h .settings .image) ≤ length image
+  h-room = let e = ap (λ (T : Settings). sampleCount (T .image)) (b .settings) in let r = L .room in omega arith
+
+  h-roomy : Roomy (h .settings) (length scratch) (length tables)
+  h-roomy = subst (λ (T : Settings). Roomy T (length scratch) (length tables)) (sym (b .settings)) (L .areas)
+
+  -- the table area once the tables are stored, and the image area once its first n slots are cleared
+  module _ (t1 z : List ℤ) (n : ℕ) (stored : t1 ≡ h .tables ++ drop m tables) (count : n ≡ sampleCount (S .image)) (cleared : z ≡ replicate (length (take n image)) (pos 0)) where
+    z-long : length (take n image) ≡ n
+    z-long = length-take n image ∙ (let r = L .room in omega arith)
+
+    z-is : z ≡ replicate n (pos 0)
+    z-is = cleared ∙ ap (λ (k : ℕ). replicate k (pos 0)) z-long
+
+    front : take n (z ++ drop n image) ≡ replicate (sampleCount (S .image)) (pos 0)
+    front = take-at z (drop n image) n (ap length z-is ∙ length-replicate n (pos 0)) ∙ z-is ∙ ap (λ (k : ℕ). replicate k (pos 0)) count
+
+    -- both parts that the body is lent are as long as they are asked to be
+    pub front-long : n ≡ length (take n (z ++ drop n image))
+    front-long = count ∙ sym (ap length front ∙ length-replicate (sampleCount (S .image)) (pos 0))
+
+    tables-front : take m t1 ≡ h .tables
+    tables-front = ap (take m) stored ∙ take-at (h .tables) (drop m tables) m h-long
+
+    pub tables-long : m ≡ length (take m t1)
+    tables-long = sym (ap length tables-front ∙ h-long)
+
+    pub begun-starts : (P : Plan) (scratch′ : List ℤ) → P ≡ planOf S → length scratch′ ≡ length scratch → Starts S P (take m t1) (take n (z ++ drop n image)) scratch′ at
+    begun-starts P scratch′ p l =
+        rw (tables-front, front) (record {
+          given = record {
+            image = record {
+              legal = begun-legal bytes scratch tables image S at b;
+              within = begun-limited bytes scratch tables image S at b;
+              long = length-replicate (sampleCount (S .image)) (pos 0);
+              ranged = λ i _. zeros-good S (deep S (begun-legal bytes scratch tables image S at b)) .in-range i;
+            };
+            tables-legal = h-entries;
+            tables-long = let k = h-long in omega arith;
+            planned = p;
+          };
+          long = let k = L .areas .scratch-holds in omega arith;
+          at-most = let k = position-small bytes scratch tables image h at (b .read) (b .fits) h-room h-roomy in omega arith;
+        })
+
+    pub begun-outcome : (x : List ℤ) (g : Gone) → Answer S (take m t1) (unpack bytes) at (take n (z ++ drop n image)) x g → Outcome bytes (lentOf scratch tables image) S (h .tables) x g
+    begun-outcome x g a =
+        subst (λ (T : Settings). Answer T (h .tables) (unpack bytes) at (replicate (sampleCount (T .image)) (pos 0)) x g → Outcome bytes (lentOf scratch tables image) T (h .tables) x g) (b .settings)
+        (outcome bytes scratch tables image h at (b .read) (b .fits) h-room h-roomy x g)
+        (rw (tables-front, front) at a)
+
+    -- the image area with its first part read keeps its length
+    pub image-long : (x : List ℤ) → length x ≡ length (take n (z ++ drop n image)) → length (x ++ drop n (z ++ drop n image)) ≡ length image
+    image-long x l =
+        let a = length-append x (drop n (z ++ drop n image)) in
+        let d : length (drop n (z ++ drop n image)) ≡ length (drop n image) = ap length (drop-at z (drop n image) n (ap length z-is ∙ length-replicate n (pos 0))) in
+        let b = length-drop n image in
+        let f = front-long in
+        let r = L .room in
+        omega arith
+
+    -- all read: the areas hold tables and samples, and behind them what they held
+    pub opens-done : (x : List ℤ) (g : Gone) (r : Opened) → Outcome bytes (lentOf scratch tables image) S (h .tables) x g → length x ≡ n
+        → r ≡ answerOf S (unpack bytes) g → isRefused (answerOf S (unpack bytes) g) ≡ false → Opens bytes scratch tables image r t1 (x ++ drop n (z ++ drop n image))
+    unfolding tablesAfter imageAfter
+    opens-done x g r o l a k =
+        opens-as bytes scratch tables image (got (record { settings = S; tables = h .tables; samples = x }) []) (o .whole k)
+        (a ∙ o .answer ∙ ap openAnswer (o .whole k))
+        (stored ∙ ap (λ (j : ℕ). h .tables ++ drop j tables) (sym h-long))
+        (ap (λ (y : List ℤ). x ++ y) (drop-at z (drop n image) n (ap length z-is ∙ length-replicate n (pos 0)) ∙ ap (λ (j : ℕ). drop j image) (sym l)))
+
+  -- refused: both areas are cleared whole
+  pub opens-refused : (T x t i : List ℤ) (g : Gone) (r : Opened) → Outcome bytes (lentOf scratch tables image) S T x g → r ≡ answerOf S (unpack bytes) g
+      → isRefused (answerOf S (unpack bytes) g) ≡ true → t ≡ replicate (length tables) (pos 0) → i ≡ replicate (length image) (pos 0) → Opens bytes scratch tables image r t i
+  unfolding openAnswer
+  opens-refused T x t i g r o a k p q =
+      let w = o .refusal k in
+      let e : r ≡ opening.Refused (w .0) = a ∙ o .answer ∙ ap openAnswer (w .1) in
+      subst (λ (y : Opened). Opens bytes scratch tables image y t i) (sym e) (opens-cleared bytes scratch tables image (w .0) (w .2) (w .1) p q)

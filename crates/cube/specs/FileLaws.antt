@@ -140,10 +140,10 @@ good-used S samples g = record { long = g .long ∙ count; in-range = λ i. sym 
     ranged s = range-used S s
 
 -- nothing yet read: zeros, each in range
-zeros-good : (S : Settings) → 1 ≤ S .image .depth → Good S (replicate (sampleCount (S .image)) (pos 0))
+pub zeros-good : (S : Settings) → 1 ≤ S .image .depth → Good S (replicate (sampleCount (S .image)) (pos 0))
 zeros-good S d = record { long = length-replicate (sampleCount (S .image)) (pos 0); in-range = λ i. subst (λ (v : ℤ). inRange (S .image) v ≡ true) (sym (getD-zeros (sampleCount (S .image)) i)) (zero-in-range (S .image) d) }
 
-deep : (S : Settings) → settingsLegal S ≡ true → 1 ≤ S .image .depth
+pub deep : (S : Settings) → settingsLegal S ≡ true → 1 ≤ S .image .depth
 deep S legal = let d = legal-settings S legal .image .depth-least in omega arith
 
 -- what the reader finds behind the header of a packed file

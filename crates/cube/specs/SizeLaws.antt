@@ -107,3 +107,9 @@ file-small S tables samples e h =
     let w = legal .image .word-most in
     let f = filled-lt (8 * S .image .word) (header S tables ++ body S tables samples) (let a = legal .image .word-least in omega arith) in
     rw length-pack (omega arith)
+
+-- the same, by the places in their order
+pub codes-small : (S : Settings) (tables samples : List ℤ) → settingsLegal S ≡ true → limited (S .image) ≡ true
+    → length (codes S tables (imageOf (S .image) samples) (order (S .image))) ≤ 48 * 1048576
+unfolding body
+codes-small S tables samples e h = body-small S tables samples e h

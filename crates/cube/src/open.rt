@@ -1,19 +1,29 @@
-// The reader's answer from what its body and the end of the file came to.
+// Opening: any bytes, any areas get an answer, and after a refusal no half image is left.
 use super::Opened;
+use super::clear::clear_slots;
 use super::ending::Ending;
 use super::ending::end_of;
+use body::plan::plan_of;
 use body_reader::Gone;
+use body_reader::walk::read_body;
+use header::read::HeaderRead;
+use header::read::read_header;
+use header::store::store_tables;
 use settings::Refusal;
 use settings::Settings;
+use settings::check::areas_short;
 use settings::legal::sample_count;
+use settings::tables::STRIDE;
 ghost use mathlib.Core.Path.{_≡_};
 ghost use mathlib.Core.Bool.{true};
 ghost use Rattle.bitstream.specs.Stream.{unpack};
 ghost use Rattle.settings.specs.Legal.{settingsLegal, limited};
-ghost use Rattle.cube.specs.Opening.{answerOf, isRefused, Reached};
+ghost use Rattle.header.specs.Answers.{Begins};
+ghost use Rattle.cube.specs.Areas.{Opens};
+ghost use Rattle.cube.specs.Opening.{answerOf, isRefused, Reached, Lendable};
 
 // The answer for what the body came to; where it was read, the end of the file decides.
-pub fn answer_of(file: &[u8], s: Settings, gone: Gone) -> Opened
+fn answer_of(file: &[u8], s: Settings, gone: Gone) -> Opened
     requires { ⌜ (settingsLegal s ≡ true) × (limited (s .image) ≡ true) × Reached (unpack (now file)) gone ⌝ }
     ensures { λ r. ⌜ r ≡ answerOf s (unpack (now (file .entry))) gone ⌝ }
 {
@@ -33,11 +43,78 @@ pub fn answer_of(file: &[u8], s: Settings, gone: Gone) -> Opened
 }
 
 // Whether an answer is a refusal.
-pub fn is_refused(r: Opened) -> bool
+fn is_refused(r: Opened) -> bool
     ensures { λ b. ⌜ b ≡ isRefused r ⌝ }
 {
     match r {
         Opened::Settings(_) => false,
         Opened::Refused(_) => true,
+    }
+}
+
+// Tables and body into areas that are long enough; what is refused leaves both areas cleared whole.
+fn open_body(
+    file: &[u8],
+    s: Settings,
+    at: usize,
+    scratch: &mut [i32],
+    tables: &mut [i32],
+    image: &mut [i32],
+) -> Opened
+    requires { ⌜ Lendable (unpack (now file)) s at (now scratch) (now tables) (now image) ⌝ }
+    ensures { λ r. ⌜ Opens (now (file .entry)) (now (scratch .entry)) (now (tables .entry)) (now (image .entry)) r (now (tables .exit)) (now (image .exit)) ⌝ }
+{
+    let count = sample_count(s.image) as usize;
+    let entries = STRIDE * (s.image.nz as usize);
+    store_tables(file, s, &mut *tables);
+    clear_slots(&mut image[..count]);
+    let p = plan_of(s);
+    let gone = read_body(
+        s,
+        p,
+        &tables[..entries],
+        file,
+        at,
+        scratch,
+        &mut image[..count],
+    );
+    let answer = answer_of(file, s, gone);
+    if is_refused(answer) {
+        clear_slots(tables);
+        clear_slots(image);
+        return answer;
+    }
+    answer
+}
+
+// Areas that are too short are refused before anything is touched.
+fn open_lent(
+    file: &[u8],
+    s: Settings,
+    at: usize,
+    scratch: &mut [i32],
+    tables: &mut [i32],
+    image: &mut [i32],
+) -> Opened
+    requires { ⌜ Begins (unpack (now file)) s at ⌝ }
+    ensures { λ r. ⌜ Opens (now (file .entry)) (now (scratch .entry)) (now (tables .entry)) (now (image .entry)) r (now (tables .exit)) (now (image .exit)) ⌝ }
+{
+    if (image.len() as u64) < sample_count(s.image) {
+        return Opened::Refused(Refusal::WrongCount);
+    }
+    if areas_short(s, scratch.len(), tables.len()) {
+        return Opened::Refused(Refusal::ShortArea);
+    }
+    open_body(file, s, at, scratch, tables, image)
+}
+
+// The public call.
+pub fn open(file: &[u8], scratch: &mut [i32], tables: &mut [i32], image: &mut [i32]) -> Opened
+    ensures { λ r. ⌜ Opens (now (file .entry)) (now (scratch .entry)) (now (tables .entry)) (now (image .entry)) r (now (tables .exit)) (now (image .exit)) ⌝ }
+{
+    let read = read_header(file);
+    match read {
+        HeaderRead::Header(s, at) => open_lent(file, s, at, scratch, tables, image),
+        HeaderRead::Refused(why) => Opened::Refused(why),
     }
 }

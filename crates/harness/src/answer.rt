@@ -1,10 +1,13 @@
 // The calls themselves, each with the line that it writes. The areas have just the lengths that the call is to see.
 // Scratch is never prepared: a call finds there what the one before it left, which must not change an answer.
 use super::areas::prepare_bytes;
+use super::areas::prepare_slots;
 use super::calls::Looked;
+use super::calls::Opened;
 use super::calls::Packed;
 use super::calls::length;
 use super::calls::look;
+use super::calls::open;
 use super::calls::pack;
 use super::hash;
 use super::lines::line;
@@ -29,6 +32,16 @@ fn run_length(s: Settings, tables: &[i32], samples: &[i32], scratch: &mut [i32])
     match length(s, tables, samples, scratch) {
         Packed::Length(count) => line(b"length", 0, count, 0),
         Packed::Refused(r) => line(b"length", number(r), value(r), 0),
+    }
+}
+
+// Both areas are hashed whole, and behind them the settings where there are any. The count of samples stands in these.
+fn run_open(file: &[u8], scratch: &mut [i32], tables: &mut [i32], image: &mut [i32]) {
+    let answer = open(file, scratch, tables, image);
+    let areas = hash::slots(hash::slots(0, tables), image);
+    match answer {
+        Opened::Settings(s) => line(b"open", 0, 0, hash::settings(areas, s)),
+        Opened::Refused(r) => line(b"open", number(r), value(r), areas),
     }
 }
 
@@ -59,7 +72,7 @@ pub fn run_writer(
     }
 }
 
-// A look. An open will use the areas too.
+// An open, whose areas are prepared, or a look.
 pub fn run_reader(
     kind: u32,
     file: &[u8],
@@ -67,5 +80,11 @@ pub fn run_reader(
     tables: &mut [i32],
     image: &mut [i32],
 ) {
-    run_look(file);
+    if kind == 3 {
+        prepare_slots(tables);
+        prepare_slots(image);
+        run_open(file, scratch, tables, image);
+    } else {
+        run_look(file);
+    }
 }

@@ -2,8 +2,9 @@
 //
 //     1 pack      scratch slots, table slots, samples, output bytes; then 24 settings, tables, samples
 //     2 length    the same, the output 0
+//     3 open      file bytes, scratch slots, table area slots, image area slots; then the file and nine zero bytes
 //     4 look      file bytes, 0, 0, 0; then the file and nine zero bytes
-//     5 changed   place, byte, length, 0: the look before it, with that byte at that place, then of that length
+//     5 changed   place, byte, length, 0: the open or look before it, with that byte at that place, then of that length
 //
 // Any other kind, and the end of the input, end the run. Words are of 32 bits, most significant byte first.
 // A call that asks for more than the arrays hold is not made, and its line says `over`. Where not even what follows its head can be
@@ -103,7 +104,7 @@ pub fn run() {
     }
 }
 
-// One call: what is held is the look that a change refers to. An ending head ends the run.
+// One call: what is held is the open or look that a change refers to. An ending head ends the run.
 fn turn(
     held: Head,
     input: &mut [u8],
@@ -159,7 +160,7 @@ fn read_writer(h: Head, input: &mut [u8]) -> bool {
     read_input(input, SETTINGS_BYTES + 4 * slots + 4 * count)
 }
 
-// Reads the file of a look, and the zeros behind it.
+// Reads the file of an open or a look, and the zeros behind it.
 fn read_file(h: Head, input: &mut [u8]) -> bool {
     let size = h.first;
     if size > MOST_BYTES {
@@ -204,7 +205,7 @@ fn writer(
     true
 }
 
-// A look at the first `size` bytes of what was read.
+// An open or a look of the first `size` bytes of what was read.
 fn reader(
     h: Head,
     size: usize,
