@@ -45,6 +45,9 @@ pub packs-one-way : {S : Settings} {tables samples scratch : List ℤ} {out : Li
     → Packs S tables samples scratch out r o → Packs S tables samples scratch out r′ o′ → (r ≡ r′) × (o ≡ o′)
 packs-one-way p q = (p .answer ∙ sym (q .answer), p .output ∙ sym (q .output))
 
+pub length-one-way : (S : Settings) (tables samples : List ℤ) (scratch : ℕ) {r r′ : Packed} → r ≡ lengthAnswer S tables samples scratch → r′ ≡ lengthAnswer S tables samples scratch → r ≡ r′
+length-one-way S tables samples scratch p q = p ∙ sym q
+
 pub opens-one-way : {bytes : List ℕ} {scratch tables image : List ℤ} {r r′ : Opened} {t t′ i i′ : List ℤ}
     → Opens bytes scratch tables image r t i → Opens bytes scratch tables image r′ t′ i′ → (r ≡ r′) × (t ≡ t′) × (i ≡ i′)
 opens-one-way p q = (p .answer ∙ sym (q .answer), p .table-area ∙ sym (q .table-area), p .image-area ∙ sym (q .image-area))
