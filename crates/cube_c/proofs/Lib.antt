@@ -1,0 +1,4 @@
+-- Pure lemmas behind the functions' proofs.
+pub mod Stores
+pub mod Fields
+pub mod Boundaries

@@ -1,0 +1,53 @@
+-- Answers in one word: number · 2^56 + value. Number 0 is success; any other is document 01's refusal.
+use Prim.Native.Nat.{ℕ, _+_, _*_, _^_}
+use Rattle.settings.specs.declared.Settings.{Settings}
+use Rattle.settings.specs.declared.Refusal.{Refusal}
+use Rattle.settings.specs.Legal.{sampleCount}
+use Rattle.settings.specs.Refusals.{number, value}
+use Rattle.cube.specs.declared.Packed.{Packed}
+use Rattle.cube.specs.declared.Packed.the-variants as packing
+use Rattle.cube.specs.declared.Opened.{Opened}
+use Rattle.cube.specs.declared.Opened.the-variants as opening
+use Rattle.cube.specs.declared.look.Looked.{Looked}
+use Rattle.cube.specs.declared.look.Looked.the-variants as looking
+
+-- what the value is kept below
+abbrev pub valueLimit : ℕ
+valueLimit = 2 ^ 56
+
+unfoldable pub wordOf : ℕ → ℕ → ℕ
+wordOf n v = n * valueLimit + v
+
+abbrev pub refusalWord : Refusal → ℕ
+refusalWord w = wordOf (number w) (value w)
+
+-- pack and length: the file's length
+unfoldable pub packedValue : Packed → ℕ
+packedValue (packing.Length n) = n
+packedValue (packing.Refused w) = value w
+
+unfoldable pub packedWord : Packed → ℕ
+packedWord (packing.Length n) = wordOf 0 n
+packedWord (packing.Refused w) = refusalWord w
+
+-- open: Nx·Ny·Nz
+unfoldable pub openedValue : Opened → ℕ
+openedValue (opening.Settings S) = sampleCount (S .image)
+openedValue (opening.Refused w) = value w
+
+unfoldable pub openedWord : Opened → ℕ
+openedWord (opening.Settings S) = wordOf 0 (sampleCount (S .image))
+openedWord (opening.Refused w) = refusalWord w
+
+-- look: the answer as an opening's, and nothing beside the settings
+unfoldable pub openedOf : Looked → Opened
+openedOf (looking.Settings S) = opening.Settings S
+openedOf (looking.Refused w) = opening.Refused w
+
+unfoldable pub lookedValue : Opened → ℕ
+lookedValue (opening.Settings S) = 0
+lookedValue (opening.Refused w) = value w
+
+unfoldable pub lookedWord : Opened → ℕ
+lookedWord (opening.Settings S) = wordOf 0 0
+lookedWord (opening.Refused w) = refusalWord w

@@ -1,0 +1,71 @@
+// Answers in one word: number · 2^56 + value, where number 0 is success.
+use cube::Opened;
+use cube::Packed;
+use cube::look::Looked;
+use settings::Refusal;
+use settings::legal::sample_count;
+use settings::refusals::number;
+use settings::refusals::value;
+ghost use mathlib.Core.Path.{_≡_};
+ghost use Prim.Native.Nat.{_≤_, _<_, _^_};
+ghost use Rattle.settings.specs.Refusals.{value};
+ghost use Rattle.cube_c.specs.Answer.{valueLimit, wordOf, refusalWord, packedValue, packedWord, openedValue, openedWord, lookedValue, lookedWord, openedOf};
+
+// A number from 0 to 12 with a value below it in the word.
+pub fn word(number: u64, value: u64) -> u64
+    requires { ⌜ number ≤ 12 ⌝ }
+    requires { ⌜ value < valueLimit ⌝ }
+    ensures { λ r. ⌜ r ≡ wordOf number value ⌝ }
+{
+    number * 72057594037927936 + value
+}
+
+pub fn refusal_word(w: Refusal) -> u64
+    requires { ⌜ value w < valueLimit ⌝ }
+    ensures { λ r. ⌜ r ≡ refusalWord w ⌝ }
+{
+    word(number(w), value(w))
+}
+
+// Success is the file's length.
+pub fn packed_word(r: Packed) -> u64
+    requires { ⌜ packedValue r < valueLimit ⌝ }
+    ensures { λ n. ⌜ n ≡ packedWord r ⌝ }
+{
+    match r {
+        Packed::Length(length) => word(0, length),
+        Packed::Refused(w) => refusal_word(w),
+    }
+}
+
+// Success is the number of samples.
+pub fn opened_word(r: Opened) -> u64
+    requires { ⌜ openedValue r < valueLimit ⌝ }
+    ensures { λ n. ⌜ n ≡ openedWord r ⌝ }
+{
+    match r {
+        Opened::Settings(s) => word(0, sample_count(s.image)),
+        Opened::Refused(w) => refusal_word(w),
+    }
+}
+
+// What a look answers, as what an opening does.
+pub fn looked_answer(r: Looked) -> Opened
+    ensures { λ o. ⌜ o ≡ openedOf r ⌝ }
+{
+    match r {
+        Looked::Settings(s) => Opened::Settings(s),
+        Looked::Refused(w) => Opened::Refused(w),
+    }
+}
+
+// Success has no value beside the settings.
+pub fn looked_word(r: Opened) -> u64
+    requires { ⌜ lookedValue r < valueLimit ⌝ }
+    ensures { λ n. ⌜ n ≡ lookedWord r ⌝ }
+{
+    match r {
+        Opened::Settings(_) => 0,
+        Opened::Refused(w) => refusal_word(w),
+    }
+}
