@@ -1,0 +1,169 @@
+//! The closed list of refusals.
+
+use std::fmt;
+
+use crate::boundary::Answer;
+
+/// Why a call was refused. The cases stand in the order of their numbers.
+#[derive(Clone, Copy, Debug, PartialEq, Eq)]
+pub enum Refusal {
+    /// 1: a setting, or a table value that the settings use, is illegal.
+    IllegalSetting,
+    /// 2: a sample is out of its range.
+    SampleOutOfRange {
+        /// The index of the first such sample.
+        index: u64,
+    },
+    /// 3: the sample count is not Nx·Ny·Nz, or an area is too small for its list.
+    WrongCount,
+    /// 4: the image is larger than the house takes.
+    HouseLimit,
+    /// 5: scratch under 32 slots a band, or the table area under 19.
+    ShortScratchOrTables,
+    /// 6: the file is longer than the output.
+    ShortOutput {
+        /// The file's length.
+        length: u64,
+    },
+    /// 7: the file ends inside its header.
+    HeaderEnds,
+    /// 8: a header field is illegal, or a bit that must be zero is set.
+    IllegalField,
+    /// 9: the body ends too soon.
+    BodyEnds {
+        /// The rank, in coding order, of the value that is not whole.
+        rank: u64,
+    },
+    /// 10: a codeword that the writer would not choose.
+    ForeignCodeword {
+        /// The rank, in coding order, of its value.
+        rank: u64,
+    },
+    /// 11: bytes after the end, or fill that is not zero.
+    AfterTheEnd {
+        /// The count of samples.
+        count: u64,
+    },
+    /// 12: the file was packed with the block-adaptive coder.
+    OtherCoder,
+    /// A number that is not in the list: this crate and the archive do not match.
+    Unknown {
+        /// The number.
+        number: u8,
+        /// The value beside it.
+        value: u64,
+    },
+}
+
+impl Refusal {
+    /// The success value of an answer, or its refusal.
+    pub fn of_answer(answer: Answer) -> Result<u64, Refusal> {
+        let value = answer.value();
+        Err(match answer.number() {
+            0 => return Ok(value),
+            1 => Refusal::IllegalSetting,
+            2 => Refusal::SampleOutOfRange { index: value },
+            3 => Refusal::WrongCount,
+            4 => Refusal::HouseLimit,
+            5 => Refusal::ShortScratchOrTables,
+            6 => Refusal::ShortOutput { length: value },
+            7 => Refusal::HeaderEnds,
+            8 => Refusal::IllegalField,
+            9 => Refusal::BodyEnds { rank: value },
+            10 => Refusal::ForeignCodeword { rank: value },
+            11 => Refusal::AfterTheEnd { count: value },
+            12 => Refusal::OtherCoder,
+            number => Refusal::Unknown { number, value },
+        })
+    }
+
+    /// The number in the list, 1 to 12.
+    pub fn number(self) -> u8 {
+        match self {
+            Refusal::IllegalSetting => 1,
+            Refusal::SampleOutOfRange { .. } => 2,
+            Refusal::WrongCount => 3,
+            Refusal::HouseLimit => 4,
+            Refusal::ShortScratchOrTables => 5,
+            Refusal::ShortOutput { .. } => 6,
+            Refusal::HeaderEnds => 7,
+            Refusal::IllegalField => 8,
+            Refusal::BodyEnds { .. } => 9,
+            Refusal::ForeignCodeword { .. } => 10,
+            Refusal::AfterTheEnd { .. } => 11,
+            Refusal::OtherCoder => 12,
+            Refusal::Unknown { number, .. } => number,
+        }
+    }
+
+    /// What the caller can do about it.
+    pub fn advice(self) -> &'static str {
+        match self {
+            Refusal::IllegalSetting => "set it within its range",
+            Refusal::SampleOutOfRange { .. } => {
+                "raise the depth, or say whether samples are signed; or correct the sample"
+            }
+            Refusal::WrongCount => "lend columns times rows times bands samples",
+            Refusal::HouseLimit => {
+                "pack the image in parts of at most 1,048,576 samples and 512 bands"
+            }
+            Refusal::ShortScratchOrTables => {
+                "lend 32 scratch slots and 19 table slots for each band"
+            }
+            Refusal::ShortOutput { .. } => "lend an output of that length",
+            Refusal::HeaderEnds | Refusal::BodyEnds { .. } => {
+                "the file was cut short: fetch it again from where it came"
+            }
+            Refusal::IllegalField => {
+                "the header is damaged or this is no cube file: fetch it again from where it came"
+            }
+            Refusal::ForeignCodeword { .. } => {
+                "the file is damaged here or before: fetch it again from where it came"
+            }
+            Refusal::AfterTheEnd { .. } => {
+                "the samples were read, but the file is not the one that was packed: fetch it \
+                 again, or cut what was appended"
+            }
+            Refusal::OtherCoder => "open it with a program for the block-adaptive coder",
+            Refusal::Unknown { .. } => "build this program again, with the archive of its edition",
+        }
+    }
+}
+
+impl fmt::Display for Refusal {
+    /// The number and the meaning, with the value where there is one.
+    fn fmt(&self, to: &mut fmt::Formatter) -> fmt::Result {
+        write!(to, "refusal {}: ", self.number())?;
+        match *self {
+            Refusal::IllegalSetting => write!(to, "a setting is illegal"),
+            Refusal::SampleOutOfRange { index } => {
+                write!(to, "the sample at index {index} is out of range")
+            }
+            Refusal::WrongCount => write!(to, "the count of samples or slots is wrong"),
+            Refusal::HouseLimit => write!(to, "the image is over the house limits"),
+            Refusal::ShortScratchOrTables => write!(to, "scratch or the table area is too short"),
+            Refusal::ShortOutput { length } => {
+                write!(to, "the file of {length} bytes is longer than the output")
+            }
+            Refusal::HeaderEnds => write!(to, "the file ends inside its header"),
+            Refusal::IllegalField => {
+                write!(
+                    to,
+                    "a header field is illegal, or a bit that must be 0 is set"
+                )
+            }
+            Refusal::BodyEnds { rank } => write!(to, "the file ends too soon, at value {rank}"),
+            Refusal::ForeignCodeword { rank } => {
+                write!(to, "value {rank} has a codeword that no packer chooses")
+            }
+            Refusal::AfterTheEnd { count } => write!(
+                to,
+                "there are bytes or set bits behind the last of {count} values"
+            ),
+            Refusal::OtherCoder => write!(to, "the file has the block-adaptive coder"),
+            Refusal::Unknown { value, .. } => write!(to, "unknown, with value {value}"),
+        }
+    }
+}
+
+impl std::error::Error for Refusal {}
