@@ -22,7 +22,8 @@ use Rattle.predictor.specs.MappingLaws.{mapped-small}
 use Rattle.predictor.specs.WeightUpdate.{scaledError, exponentBy, steppedWeights, nextWeights}
 use Rattle.predictor.specs.Mapping.{mapped}
 use Rattle.predictor.specs.Asks as asks
-use Rattle.predictor.specs.Asks.{Terms, Schedule, Stepping}
+use Rattle.predictor.specs.Asks.{Terms, Schedule, Stepping, Differences}
+use Rattle.predictor.specs.Differences.{imageOf, componentsAt}
 use Rattle.coder.specs.declared.Statistics.{Statistics}
 use Rattle.coder.specs.Statistics.{initialStatistics, nextStatistics}
 use Rattle.coder.specs.StatisticsLaws.{Tame, initial-tame, next-tame}
@@ -45,6 +46,18 @@ module _ {S : Settings} {tables : List ℤ} {z : ℕ} (b : Beginning S tables z)
       let l = legal-settings S (b .legal) in
       counted (l .image .depth-most) (l .coder .rescaling-most)
       (initial-tame S tables z (record { rescaled = l .coder .rescaling-above; parameter-fits = parameter-fits b }))
+
+-- the components of a place, taken off the 18 slots that they were written to
+module _ {S : Settings} {tables samples us : List ℤ} {z t : ℕ} {sum : ℤ} (b : Beginning S tables z) (d : Differences S samples z t sum us)
+    {n : ℕ} (e : n ≡ componentCount (S .predictor) z) where
+  pub taken-in : n ≤ length us
+  taken-in = let h = components-few b in let m = d .long in omega arith
+
+  pub taken-long : length (take n us) ≡ n
+  taken-long = length-take-le n us taken-in
+
+  pub taken-are : take n us ≡ componentsAt S (imageOf (S .image) samples) z t
+  taken-are = ap (λ (m : ℕ). take m us) e ∙ d .components-are
 
 module _ {S : Settings} {tables l : List ℤ} {z : ℕ} (b : Starting S tables l z) (n : ℕ) (e : n ≡ componentCount (S .predictor) z) where
   pub prefix-in : n ≤ length l

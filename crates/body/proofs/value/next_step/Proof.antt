@@ -1,10 +1,9 @@
 -- Sum, components and sample are the definition's at this place.
-use mathlib.Core.Path.{_≡_, refl, sym, _∙_, ap}
-use Prim.Native.Nat.{ℕ, _+_, _*_, _≤_}
+use mathlib.Core.Path.{_≡_, refl, sym, _∙_}
+use Prim.Native.Nat.{_+_, _*_}
 use native.Mathlib.Omega.{arith}
 use lib.IntN.{pos}
-use lib.ListN.{length, getD, take}
-use lib.Seq.{length-take-le}
+use lib.ListN.{getD, take}
 use mir.Syntax.{w32, w64}
 use mir.Val.{toZ, ofZ}
 use mir.Facts.{toZ-ofZ}
@@ -12,7 +11,7 @@ use borrow.Author.Needs.{needs}
 use Rattle.integers.specs.Laws.{ok}
 use Rattle.predictor.specs.LocalSum.{sumAt}
 use Rattle.predictor.specs.Differences.{imageOf, componentsAt}
-use Rattle.body.proofs.Coding.{components-few}
+use Rattle.body.proofs.Coding.{taken-in, taken-long, taken-are}
 use Rattle.body.proofs.Steps.{begins, index-in, index-small, differing, coding, step-is}
 use Rattle.body.proofs.Runs.{area-small}
 use Rattle.body.proofs.value.next_step.Statement.{statement}
@@ -21,20 +20,8 @@ use Rattle.body.proofs.value.next_step.Tie as tie
 us-is : (c : tie.After-component-count) → let a = c .before .before .before .before .before .args in
     take (c .component-count .result) (c .before .before .differences .last .1 .1 .0) ≡ componentsAt (a .s) (imageOf (a .s .image) (a .image .now)) (a .z) (a .t)
 us-is c =
-    let d = c .before .before .differences in
-    ap (λ (m : ℕ). take m (d .last .1 .1 .0)) (c .component-count .ensures) ∙ d .ensures .components-are
-
--- as many of the 18 slots as there are components
-prefix-long : (c : tie.After-component-count) → let l = c .before .before .differences .last .1 .1 .0 in
-    (c .component-count .result ≤ length l) × (length (take (c .component-count .result) l) ≡ c .component-count .result)
-prefix-long c =
-    let s = c .before .before .before .before .before in
-    let l = c .before .before .differences .last .1 .1 .0 in
-    let h = components-few (begins (s .pre .0 .given) (s .pre .0 .band-in)) in
-    let e = c .component-count .ensures in
-    let n : length l ≡ 18 = c .before .before .differences .ensures .long in
-    let w : c .component-count .result ≤ length l = omega arith in
-    (w, length-take-le (c .component-count .result) l w)
+    let q = c .before .before .before .before .before .pre .0 in
+    taken-are (begins (q .given) (q .band-in)) (c .before .before .differences .ensures) (c .component-count .ensures)
 
 sum-is : (c : tie.After-differences) → let a = c .before .before .before .args in
     toZ w64 (ofZ w64 (c .differences .result)) ≡ sumAt (a .s .image .nx) (a .s .predictor .column) (imageOf (a .s .image) (a .image .now) (a .z)) (a .t)
@@ -78,10 +65,16 @@ shared-slice-copy-out-sample : tie.Need-shared-slice-copy-out-sample
 shared-slice-copy-out-sample c = let q = c .before .before .before .before .before .before .before .pre .0 in index-in (q .given) (q .band-in) (q .place-in)
 
 array-share-prefix-us : tie.Need-array-share-prefix-us
-array-share-prefix-us c = prefix-long (c .before .before .before .before) .0
+array-share-prefix-us c =
+    let d = c .before .before .before .before in
+    let q = d .before .before .before .before .before .pre .0 in
+    taken-in (begins (q .given) (q .band-in)) (d .before .before .differences .ensures) (d .component-count .ensures)
 
 slice-aggregate-code-value : tie.Need-slice-aggregate-code-value
-slice-aggregate-code-value c = sym (prefix-long (c .before .before .before .before .before) .1)
+slice-aggregate-code-value c =
+    let d = c .before .before .before .before .before in
+    let q = d .before .before .before .before .before .pre .0 in
+    sym (taken-long (begins (q .given) (q .band-in)) (d .before .before .differences .ensures) (d .component-count .ensures))
 
 code-value-requires : tie.Need-code-value-requires
 code-value-requires c κs = let s = c .before .before .before .before .before .before .before .before .before .before .before in coding (s .pre .0) (s .pre .1) _ _ _ (us-is (c .before .before .before .before .before .before)) (sum-is (c .before .before .before .before .before .before .before .before)) (sample-is (c .before .before .before))

@@ -1,19 +1,17 @@
 -- Sum and components are the definition's at this place, and so is the sample that is stored.
 use native.Mathlib.Omega.{arith}
 use mir.Val.{toZ, ofZ}
-use Prim.Native.Nat.{ℕ, _≤_}
-use lib.Seq.{length-take-le}
 use mir.Facts.{toZ-ofZ}
 use mir.Syntax.{w32, w64}
-use lib.ListN.{length, take}
-use mathlib.Core.Path.{_≡_, refl, sym, _∙_, ap}
+use lib.ListN.{take}
+use mathlib.Core.Path.{_≡_, refl, sym, _∙_}
 use borrow.Author.Needs.{needs}
 use Rattle.predictor.specs.Differences.{imageOf, componentsAt}
 use Rattle.predictor.specs.LocalSum.{sumAt}
 use Rattle.body.proofs.Runs.{area-small}
 use Rattle.integers.specs.Laws.{ok}
 use Rattle.body_reader.proofs.value.next_step.Statement.{statement}
-use Rattle.body.proofs.Coding.{components-few}
+use Rattle.body.proofs.Coding.{taken-in, taken-long, taken-are}
 use Rattle.body_reader.proofs.Stores.{differing, decoding, parsed-are, next-taken}
 use Rattle.bitstream.specs.Stream.{unpack}
 use Rattle.body_reader.proofs.value.next_step.Tie as tie
@@ -22,20 +20,8 @@ use Rattle.body.proofs.Steps.{begins, index-in, index-small}
 us-is : (c : tie.After-component-count) → let a = c .before .before .before .before .before .before .args in
     take (c .component-count .result) (c .before .before .differences .last .1 .1 .0) ≡ componentsAt (a .s) (imageOf (a .s .image) (a .image .now)) (a .z) (a .t)
 us-is c =
-    let d = c .before .before .differences in
-    ap (λ (m : ℕ). take m (d .last .1 .1 .0)) (c .component-count .ensures) ∙ d .ensures .components-are
-
--- as many of the 18 slots as there are components
-prefix-long : (c : tie.After-component-count) → let l = c .before .before .differences .last .1 .1 .0 in
-    (c .component-count .result ≤ length l) × (length (take (c .component-count .result) l) ≡ c .component-count .result)
-prefix-long c =
-    let s = c .before .before .before .before .before .before in
-    let l = c .before .before .differences .last .1 .1 .0 in
-    let h = components-few (begins (s .pre .0 .given) (s .pre .0 .band-in)) in
-    let e = c .component-count .ensures in
-    let n : length l ≡ 18 = c .before .before .differences .ensures .long in
-    let w : c .component-count .result ≤ length l = omega arith in
-    (w, length-take-le (c .component-count .result) l w)
+    let q = c .before .before .before .before .before .before .pre .0 in
+    taken-are (begins (q .given) (q .band-in)) (c .before .before .differences .ensures) (c .component-count .ensures)
 
 sum-is : (c : tie.After-differences) → let a = c .before .before .before .before .args in
     toZ w64 (ofZ w64 (c .differences .result)) ≡ sumAt (a .s .image .nx) (a .s .predictor .column) (imageOf (a .s .image) (a .image .now) (a .z)) (a .t)
@@ -66,10 +52,16 @@ add-place : tie.Need-add-place
 add-place c = let r = c .before .before .before .before .before .before .before .before .pre .0 in let h = index-small (r .given) (r .band-in) (r .place-in) in omega arith
 
 array-share-prefix-us : tie.Need-array-share-prefix-us
-array-share-prefix-us c = prefix-long (c .before .before .before) .0
+array-share-prefix-us c =
+    let d = c .before .before .before in
+    let q = d .before .before .before .before .before .before .pre .0 in
+    taken-in (begins (q .given) (q .band-in)) (d .before .before .differences .ensures) (d .component-count .ensures)
 
 slice-aggregate-decode-value : tie.Need-slice-aggregate-decode-value
-slice-aggregate-decode-value c = sym (prefix-long (c .before .before .before .before) .1)
+slice-aggregate-decode-value c =
+    let d = c .before .before .before .before in
+    let q = d .before .before .before .before .before .before .pre .0 in
+    sym (taken-long (begins (q .given) (q .band-in)) (d .before .before .differences .ensures) (d .component-count .ensures))
 
 decode-value-requires : tie.Need-decode-value-requires
 decode-value-requires c κs = let s = c .before .before .before .before .before .before .before .before .before .before in decoding (s .pre .0) (s .pre .1) _ _ (us-is (c .before .before .before .before)) (sum-is (c .before .before .before .before .before .before))
