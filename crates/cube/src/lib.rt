@@ -1,6 +1,6 @@
-// The cube file: coding order, body and the whole, and the answers of the public calls.
-pub mod clear;
-pub mod ending;
+// The cube file and the four public calls: pack and length, open, look.
+mod clear;
+mod ending;
 pub mod look;
 pub mod open;
 pub mod pack;

@@ -1,4 +1,4 @@
 // The C boundary: settings in 24 slots, answers in one word.
-pub mod answer;
+mod answer;
 pub mod boundary;
-pub mod slots;
+mod slots;
