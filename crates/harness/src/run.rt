@@ -21,6 +21,9 @@ const MOST_TABLES: usize = 1280;
 
 const MOST_SAMPLES: usize = 4096;
 
+// A recorded call lends an image area this large for a file of a few bytes.
+const MOST_IMAGE: usize = 786432;
+
 const MOST_SCRATCH: usize = 2112;
 
 const MOST_BYTES: usize = 16384;
@@ -76,7 +79,7 @@ fn read_head() -> Head {
 pub fn run() {
     let mut input = [0u8; MOST_INPUT];
     let mut tables = [0i32; MOST_TABLES];
-    let mut samples = [0i32; MOST_SAMPLES];
+    let mut samples = [0i32; MOST_IMAGE];
     let mut scratch = [0i32; MOST_SCRATCH];
     let mut out = [0u8; MOST_BYTES];
     // A change before any call is of an empty file: the kind only has to be no end.

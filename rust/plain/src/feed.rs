@@ -12,8 +12,10 @@ use crate::settings::{Settings, SCRATCH_STRIDE, TABLE_STRIDE};
 // What the programs have room for: crates/harness/src/run.rt has the same numbers.
 /// Table slots that the programs have room for: 64 bands and some.
 pub const MOST_TABLES: usize = 1_280;
-/// Samples that the programs have room for.
+/// Samples to be packed that the programs have room for.
 pub const MOST_SAMPLES: usize = 4_096;
+/// Slots of an image area that the programs have room for.
+pub const MOST_IMAGE: usize = 786_432;
 /// Scratch slots that the programs have room for: 64 bands and some.
 pub const MOST_SCRATCH: usize = 2_112;
 /// Bytes of a file, or of an output, that the programs have room for.
@@ -130,7 +132,7 @@ pub fn fits(call: &Call) -> bool {
             file.len() <= MOST_BYTES
                 && *scratch <= MOST_SCRATCH
                 && *table_area <= MOST_TABLES
-                && *image_area <= MOST_SAMPLES
+                && *image_area <= MOST_IMAGE
         }
         Call::Look { file } => file.len() <= MOST_BYTES,
     }

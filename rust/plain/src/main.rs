@@ -219,11 +219,15 @@ impl<'a> FeedOptions<'a> {
         self.calls.is_empty() || self.calls.contains(&call_name(call))
     }
 
-    /// Adds a call, and if asked the file that it packs, opened again and changed.
+    /// Adds a call. A file that it reads, or if asked packs and then opens, is also
+    /// changed.
     fn add(&self, feed: &mut Feed, call: &Call) {
-        if feed.add(call) && self.reopen {
+        let most = self.most.unwrap_or(usize::MAX);
+        if matches!(call, Call::Open { .. } | Call::Look { .. }) {
+            feed.add_changed(call, &self.changes, most);
+        } else if feed.add(call) && self.reopen {
             if let Some(opening) = reopening(call) {
-                feed.add_changed(&opening, &self.changes, self.most.unwrap_or(usize::MAX));
+                feed.add_changed(&opening, &self.changes, most);
             }
         }
     }
@@ -260,8 +264,7 @@ fn feed(input: &str, output: &str, words: &[&str]) -> Result<bool, String> {
             .for_each(|call| options.add(&mut feed, &call));
     }
     for file in options.headers.map(header_shapes).unwrap_or_default() {
-        let call = Call::Look { file };
-        feed.add_changed(&call, &options.changes, options.most.unwrap_or(usize::MAX));
+        options.add(&mut feed, &Call::Look { file });
     }
     let summary = feed.summary();
     let (bytes, lines) = feed.finish();

@@ -323,6 +323,11 @@ fn the_command_line_feeds() {
     assert_eq!(plain(&["unfeed", &input, "1"]), (Some(0), noted(&text, 1)));
     assert_eq!(plain(&["unfeed", &input, "0"]).0, Some(2));
     assert_eq!(plain(&["unfeed", &input, "21"]).0, Some(2));
+    // The file of a recorded open is changed as well.
+    let said = "0 pack, 0 length, 1 open, 0 look, 18 changed, 0 left out\n";
+    let opening = format!("{manifest}/vectors/0001.case");
+    let done = run(&["--extensions", &opening]);
+    assert_eq!(done, (Some(0), said.to_string()));
     let said = "0 pack, 0 length, 0 open, 9 look, 0 changed, 0 left out\n";
     let done = run(&["--calls", "look", "--random", "1", "9", &case]);
     assert_eq!(done, (Some(0), said.to_string()));

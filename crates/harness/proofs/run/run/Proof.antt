@@ -1,20 +1,23 @@
 -- `harness::run::run` is safe and ends: the arrays keep their lengths, and each turn leaves one fewer.
 use borrow.Author.Needs.{needs}
-use mathlib.Core.Path.{_≡_}
-use lib.ListN.{length}
+use mathlib.Core.Path.{_≡_, sym}
+use Prim.Native.Nat.{ℕ}
+use lib.IntN.{pos}
+use lib.ListN.{length, length-replicate}
 use Rattle.harness.proofs.run.run.Statement.{statement}
 use Rattle.harness.proofs.run.run.Tie as tie
 
 abbrev Inv-loop : tie.InvT-loop
 Inv-loop input₀ tables₀ samples₀ scratch₀ out₀ held₀ turns₀ input tables samples scratch out held turns =
-    (21600 ≡ length input) × (1280 ≡ length tables) × (4096 ≡ length samples) × (2112 ≡ length scratch) × (16384 ≡ length out)
+    (21600 ≡ length input) × (1280 ≡ length tables) × (786432 ≡ length samples) × (2112 ≡ length scratch) × (16384 ≡ length out)
 
 abbrev μ-loop : tie.MeasureT-loop
 μ-loop input₀ tables₀ samples₀ scratch₀ out₀ held₀ turns₀ input tables samples scratch out held turns =
     turns
 
 loop-holds : tie.Need-loop-holds Inv-loop μ-loop
-loop-holds c = search needs
+loop-holds c =
+    (sym (length-replicate {A = ℕ} 21600 0), sym (length-replicate 1280 (pos 0)), sym (length-replicate 786432 (pos 0)), sym (length-replicate 2112 (pos 0)), sym (length-replicate {A = ℕ} 16384 0))
 
 slice-aggregate-turn : tie.Need-slice-aggregate-turn Inv-loop μ-loop
 slice-aggregate-turn c = search needs
