@@ -23,6 +23,8 @@ fn main() {
     }
     println!("cargo:rustc-link-search=native={}", directory.display());
     println!("cargo:rustc-link-lib=static=cube_c");
+    // For the test that links the C example.
+    println!("cargo:rustc-env=REMULINGKA_ARCHIVE={}", archive.display());
 }
 
 fn archive_directory() -> PathBuf {
