@@ -22,7 +22,7 @@ use Rattle.settings.specs.Reading.{Read, got, refused, andThen}
 use Rattle.settings.specs.ReadingLaws.{passes, no-test}
 use Rattle.header.specs.Read.{Header, readHeader}
 use Rattle.header.specs.HeaderLaws.{HeaderIs, read-header}
-use Rattle.header.specs.Answers.{Begins}
+use Rattle.header_reader.specs.Answers.{Begins}
 use Rattle.header.specs.Write.{header}
 use Rattle.body.specs.Order.{order}
 use Rattle.body.specs.OrderLaws.{inside-order, sorted-order}

@@ -3,7 +3,7 @@ use mathlib.Core.List.{List}
 use Prim.Native.Nat.{ℕ}
 use Rattle.bitstream.specs.Stream.{unpack}
 use Rattle.header.specs.Read.{Header, readHeader}
-use Rattle.header.specs.Answers.{answered}
+use Rattle.header_reader.specs.Answers.{answered}
 use Rattle.cube.specs.declared.look.Looked.{Looked}
 use Rattle.cube.specs.declared.look.Looked.the-variants as answer
 

@@ -7,7 +7,7 @@ use Rattle.settings.specs.declared.Settings.{Settings}
 use Rattle.settings.specs.declared.Refusal.{Refusal}
 use Rattle.settings.specs.Reading.{Read, refused}
 use Rattle.header.specs.Read.{Header, readHeader}
-use Rattle.header.specs.Answers.{answered, Begins}
+use Rattle.header_reader.specs.Answers.{answered, Begins}
 use Rattle.cube.specs.declared.look.Looked.{Looked}
 use Rattle.cube.specs.declared.look.Looked.the-variants as answer
 use Rattle.cube.specs.Look.{looked}

@@ -9,7 +9,7 @@ use Rattle.settings.specs.declared.Settings.{Settings}
 use Rattle.settings.specs.declared.Refusal.the-variants.{BodyEnds, BadCodeword, AfterEnd}
 use Rattle.settings.specs.Legal.{sampleCount, settingsLegal, limited}
 use Rattle.settings.specs.CheckLaws.{Roomy}
-use Rattle.header.specs.Answers.{Begins}
+use Rattle.header_reader.specs.Answers.{Begins}
 use Rattle.body_reader.specs.declared.Gone.{Gone}
 use Rattle.body_reader.specs.declared.Gone.the-variants as gone
 use Rattle.cube.specs.declared.Opened.{Opened}

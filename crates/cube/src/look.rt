@@ -1,8 +1,8 @@
 // The look: the settings alone, read off the header; nothing behind it is looked at.
 ghost use mathlib.Core.Path.{_≡_};
 ghost use Rattle.cube.specs.Look.{looked};
-use header::read::HeaderRead;
-use header::read::read_header;
+use header_reader::read::HeaderRead;
+use header_reader::read::read_header;
 use settings::Refusal;
 use settings::Settings;
 

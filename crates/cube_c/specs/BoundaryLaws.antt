@@ -24,7 +24,7 @@ use Rattle.settings.specs.CheckLaws.{fine, passes-all}
 use Rattle.settings.specs.Reading.{Read, got, refused}
 use Rattle.settings.specs.ReadingLaws.{sequenced, passed, no-test}
 use Rattle.header.specs.Read.{Header, readHeader}
-use Rattle.header.specs.Answers.{answered}
+use Rattle.header_reader.specs.Answers.{answered}
 use Rattle.header.specs.Write.{usedSettings}
 use Rattle.cube.specs.declared.look.Looked.the-variants as looking
 use Rattle.header.specs.HeaderLaws.{read-header}

@@ -26,6 +26,10 @@ use Rattle.header.specs.Write.{weightPart, accumulatorPart, header}
 use Rattle.header.specs.HeaderLaws.{header-whole}
 use Rattle.header.specs.Sizes.{padded, weightBits, weightsSize, accumulatorsSize, headerSize}
 
+-- a part that a flag brings
+pub cond-true : {A : Type 0} (b : Bool) (x y : A) → b ≡ true → cond b x y ≡ x
+cond-true b x y e = rw e
+
 -- ---- components
 
 pub no-components : (P : Predictor) → componentsBefore P 0 ≡ 0

@@ -10,7 +10,5 @@ pub mod TableLaws
 pub mod Write
 pub mod Writing
 pub mod Read
-pub mod Answers
-pub mod Storing
 pub mod ReadLaws
 pub mod HeaderLaws

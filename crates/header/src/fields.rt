@@ -1,6 +1,6 @@
 // Fields of fixed width in a row: read into numbers, and put.
 ghost use mathlib.Core.Path.{_≡_};
-ghost use mathlib.Core.Bool.{true};
+ghost use mathlib.Core.Bool.{true, cond};
 ghost use Prim.Native.Nat.{_+_, _≤_, _<_, _^_};
 ghost use lib.ListN.{length, drop, take};
 ghost use Rattle.bitstream.specs.Stream.{unpack, number};
@@ -55,4 +55,11 @@ pub fn put_fields(t: Tail, out: &mut [u8], widths: &[u32], values: &[u32]) -> Ta
         i += 1;
     }
     tail
+}
+
+// A value where a flag is set, and another where it is not.
+pub fn chosen(flag: bool, a: u32, b: u32) -> u32
+    ensures { λ r. ⌜ r ≡ cond flag a b ⌝ }
+{
+    if flag { a } else { b }
 }

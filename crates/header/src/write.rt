@@ -15,8 +15,8 @@ ghost use Rattle.header.specs.Parts.{imageFields, predictorFields, coder
 ghost use Rattle.header.specs.Tables.{twos, weightTable, accumulatorTable};
 ghost use Rattle.header.specs.Write.{weightPart, accumulatorPart, header};
 ghost use Rattle.header.specs.Writing.{Writable};
+use super::fields::chosen;
 use super::fields::put_fields;
-use super::parts::chosen;
 use super::sizes::padded;
 use super::sizes::weight_bits;
 use bitstream::write::Tail;

@@ -2,8 +2,8 @@
 use mathlib.Core.Path.{subst}
 use borrow.Author.Needs.{needs}
 use Rattle.bitstream.specs.Stream.{unpack}
-use Rattle.header.specs.declared.read.HeaderRead.{HeaderRead}
-use Rattle.header.specs.Answers.{HeaderMeans}
+use Rattle.header_reader.specs.declared.read.HeaderRead.{HeaderRead}
+use Rattle.header_reader.specs.Answers.{HeaderMeans}
 use Rattle.cube.specs.LookLaws.{look-settings, look-refused}
 use Rattle.cube.proofs.look.look.Statement.{statement}
 use Rattle.cube.proofs.look.look.Tie as tie

@@ -1,7 +1,7 @@
 -- The header decides first.
 use mathlib.Core.Path.{_≡_, subst}
 use Rattle.bitstream.specs.Stream.{unpack}
-use Rattle.header.specs.Answers.{HeaderMeans}
+use Rattle.header_reader.specs.Answers.{HeaderMeans}
 use Rattle.cube.proofs.Openings.{opens-no-header}
 use borrow.Author.Needs.{needs}
 use Rattle.cube.proofs.open.open.Statement.{statement}
@@ -9,7 +9,7 @@ use Rattle.cube.proofs.open.open.Tie as tie
 use Rattle.cube.proofs.open.open.Reads as reads
 use Rattle.cube.proofs.open.open.Lts as lts
 use Rattle.cube.proofs.open.open_lent.Reads as open-lent-reads
-use Rattle.header.proofs.read.read_header.Reads as read-header-reads
+use Rattle.header_reader.proofs.read.read_header.Reads as read-header-reads
 
 -- src/open.rt:121:9
 read-header-requires : tie.Need-read-header-requires

@@ -1,0 +1,171 @@
+-- The bits of a part are those that its settings write exactly when single fields hold what they must: all others say their settings.
+use mathlib.Core.Path.{_≡_, refl, sym, ap, _∙_}
+use mathlib.Core.Bool.{Bool, true, false, not, cond, _&&_, _||_}
+use mathlib.Core.List.{List, [], _∷_}
+use Prim.Native.Nat.{ℕ, zero, suc, _+_, _-_, _%_, _^_, _≤_, _<_}
+use native.Mathlib.Nat.{mod-eq-of-lt, mod-self}
+use native.Mathlib.Decide.{decLe}
+use native.Mathlib.Omega.{arith}
+use borrow.Author.Tests.{eq-eqb, ne-eqb, eqb-true}
+use lib.Dec.{eqb}
+use lib.IntN.{ℤ, pos, negℤ, natAbs, _+ℤ_, _-ℤ_, +ℤ-assoc, +ℤ-invl, +ℤ-idr}
+use lib.ListN.{length, take, getD}
+use lib.Pow.{pow-lt, pow-mono}
+use Rattle.settings.specs.declared.Image.{Image}
+use Rattle.settings.specs.Legal.{predictorLegal}
+use Rattle.settings.specs.LegalLaws.{legal-predictor, Power}
+use Rattle.settings.specs.Truths.{parts, whole, or-else}
+use Rattle.header.specs.Fields.{fields, split, same, flag}
+use Rattle.header.specs.FieldLaws.{widths, values, total, split-lt, split-same, same-split}
+use Rattle.header.specs.Parts.{imageFields, imageWidths, imageOf, coderType, predictorFields, predictorWidths, predictorOf, coderFields, coderWidths, coderOf, exponentOf, unwrapped, isOne}
+use Rattle.header.specs.PartLaws.{exponent-power}
+use Rattle.header.specs.Plain.{imagePlain, predictorPlain, coderPlain}
+
+-- two tests that show each other are the same
+pub both : (a b : Bool) → (a ≡ true → b ≡ true) → (b ≡ true → a ≡ true) → a ≡ b
+both true b f g = sym (f refl)
+both false true f g = g refl
+both false false f g = refl
+
+and-same : (a b c : Bool) → (a ≡ true → b ≡ c) → (a && b) ≡ (a && c)
+and-same true b c f = f refl
+and-same false b c f = refl
+
+-- ---- a number that says its setting is written again
+
+small : (w v : ℕ) → v < 2 ^ w → v ≡ v % 2 ^ w
+small w v h = sym (mod-eq-of-lt h)
+
+wrapped : (w v : ℕ) → v < 2 ^ w → v ≡ unwrapped (2 ^ w) v % 2 ^ w
+wrapped w zero h = rw mod-self
+wrapped w (suc v) h = rw (ne-eqb (suc v) 0 (λ e. omega arith)) (small w (suc v) h)
+
+flagged : (v : ℕ) → v < 2 → v ≡ flag (isOne v) % 2 ^ 1
+flagged zero h = refl
+flagged (suc zero) h = refl
+flagged (suc (suc v)) h = absurd (omega arith)
+
+shifted : (w v : ℕ) → v < 2 ^ w → v ≡ (v + 4 - 4) % 2 ^ w
+shifted w v h = let e : v + 4 - 4 ≡ v = omega arith in rw e (small w v h)
+
+-- M is zero beside a flag
+unless-forth : (b : Bool) (v x : ℕ) → v ≡ cond b 0 x % 2 ^ 16 → (not b || eqb v 0) ≡ true
+unless-forth true v x e = eq-eqb v 0 e
+unless-forth false v x e = refl
+
+unless-back : (b : Bool) (v : ℕ) → v < 2 ^ 16 → (not b || eqb v 0) ≡ true → v ≡ cond b 0 (cond b 0 (unwrapped (2 ^ 16) v)) % 2 ^ 16
+unless-back true v h e = eqb-true v 0 e
+unless-back false v h e = wrapped 16 v h
+
+-- Q is zero without a flag
+where-forth : (b : Bool) (v x : ℕ) → v ≡ cond b x 0 % 2 ^ 5 → (b || eqb v 0) ≡ true
+where-forth true v x e = refl
+where-forth false v x e = eq-eqb v 0 e
+
+where-back : (b : Bool) (v : ℕ) → v < 2 ^ 5 → (b || eqb v 0) ≡ true → v ≡ cond b (cond b v 0) 0 % 2 ^ 5
+where-back true v h e = small 5 v h
+where-back false v h e = eqb-true v 0 e
+
+-- K is all ones beside a flag
+ones-forth : (b : Bool) (v x : ℕ) → v ≡ cond b 15 x % 2 ^ 4 → (not b || eqb v 15) ≡ true
+ones-forth true v x e = eq-eqb v 15 e
+ones-forth false v x e = refl
+
+ones-back : (b : Bool) (v : ℕ) → v < 2 ^ 4 → (not b || eqb v 15) ≡ true → v ≡ cond b 15 (cond b 0 v) % 2 ^ 4
+ones-back true v h e = eqb-true v 15 e
+ones-back false v h e = small 4 v h
+
+-- ---- the image
+
+image-forth : (l : List Bool) → same (take 96 l) (fields (imageFields (imageOf (split imageWidths l)) (coderType (split imageWidths l)))) ≡ true → imagePlain (split imageWidths l) ≡ true
+unfolding imageFields imageOf widths values total
+image-forth l e =
+    let v : List ℕ = split imageWidths l in
+    let q : v ≡ values (imageFields (imageOf v) (coderType v)) = same-split (imageFields (imageOf v) (coderType v)) l e in
+    let at : (i : ℕ) → getD v i 0 ≡ getD (values (imageFields (imageOf v) (coderType v))) i 0 = λ i. ap (λ (x : List ℕ). getD x i 0) q in
+    whole (eqb (getD v 5 0) 0) ((not (isOne (getD v 7 0)) || eqb (getD v 8 0) 0) ∷ eqb (getD v 9 0) 0 ∷ eqb (getD v 12 0) 0 ∷ [])
+    (eq-eqb _ 0 (at 5), (unless-forth (isOne (getD v 7 0)) (getD v 8 0) (imageOf v .interleave) (at 8), (eq-eqb _ 0 (at 9), (eq-eqb _ 0 (at 12), tt))))
+
+image-back : (l : List Bool) → 96 ≤ length l → imagePlain (split imageWidths l) ≡ true → same (take 96 l) (fields (imageFields (imageOf (split imageWidths l)) (coderType (split imageWidths l)))) ≡ true
+unfolding imageFields imageOf widths values total split
+image-back l h e =
+    let v : List ℕ = split imageWidths l in
+    let n : ℕ → ℕ = λ i. getD v i 0 in
+    let lt : (i : ℕ) → n i < 2 ^ getD imageWidths i 0 = split-lt imageWidths l in
+    let k = parts (eqb (n 5) 0) ((not (isOne (n 7)) || eqb (n 8) 0) ∷ eqb (n 9) 0 ∷ eqb (n 12) 0 ∷ []) e in
+    split-same (imageFields (imageOf v) (coderType v)) l h
+    (λ i. small 8 (n 0) (lt 0) i ∷ wrapped 16 (n 1) (lt 1) i ∷ wrapped 16 (n 2) (lt 2) i ∷ wrapped 16 (n 3) (lt 3) i ∷ flagged (n 4) (lt 4) i ∷ eqb-true (n 5) 0 (k .0) i
+    ∷ wrapped 4 (n 6) (lt 6) i ∷ flagged (n 7) (lt 7) i ∷ unless-back (isOne (n 7)) (n 8) (lt 8) (k .1 .0) i ∷ eqb-true (n 9) 0 (k .1 .1 .0) i ∷ wrapped 3 (n 10) (lt 10) i
+    ∷ small 1 (n 11) (lt 11) i ∷ eqb-true (n 12) 0 (k .1 .1 .1 .0) i ∷ [])
+
+pub image-plain : (l : List Bool) → 96 ≤ length l → same (take 96 l) (fields (imageFields (imageOf (split imageWidths l)) (coderType (split imageWidths l)))) ≡ imagePlain (split imageWidths l)
+image-plain l h = both _ _ (image-forth l) (image-back l h)
+
+-- ---- the predictor
+
+-- a legal interval has an exponent that its field can say
+exponent-back : (v : ℕ) → v < 2 ^ 4 → Power (2 ^ (v + 4)) → v ≡ (exponentOf 11 (2 ^ (v + 4)) - 4) % 2 ^ 4
+exponent-back v h p = go (decLe (v + 4) 11)
+  where
+    go : Dec (v + 4 ≤ 11) → v ≡ (exponentOf 11 (2 ^ (v + 4)) - 4) % 2 ^ 4
+    go (yes k) = rw (exponent-power 11 (v + 4) k) (shifted 4 v h)
+    go (no k) =
+        let a : 2 ^ p .exponent ≤ 2 ^ 11 = pow-mono {i = p .exponent} {j = 11} (p .most) in
+        let b : 2 ^ 11 < 2 ^ (v + 4) = pow-lt {i = 11} {j = v + 4} (omega arith) in
+        absurd (omega (arith, p .is))
+
+raised-back : (v : ℕ) → v < 2 ^ 4 → v ≡ natAbs (pos v -ℤ pos 6 +ℤ pos 6) % 2 ^ 4
+raised-back v h =
+    let e : pos v -ℤ pos 6 +ℤ pos 6 ≡ pos v = +ℤ-assoc (pos v) (negℤ (pos 6)) (pos 6) ∙ ap (λ (x : ℤ). pos v +ℤ x) (+ℤ-invl (pos 6)) ∙ +ℤ-idr (pos v) in
+    small 4 v h ∙ ap (λ (x : ℤ). natAbs x % 2 ^ 4) (sym e)
+
+abbrev predictorTests : List ℕ → List Bool
+predictorTests v = eqb (getD v 3 0) 0 ∷ eqb (getD v 5 0) 0 ∷ eqb (getD v 11 0) 0 ∷ eqb (getD v 13 0) (getD v 12 0) ∷ (isOne (getD v 12 0) || eqb (getD v 14 0) 0) ∷ []
+
+predictor-forth : (l : List Bool) → same (take 40 l) (fields (predictorFields (predictorOf (split predictorWidths l)))) ≡ true → predictorPlain (split predictorWidths l) ≡ true
+unfolding predictorFields predictorOf widths values total
+predictor-forth l e =
+    let v : List ℕ = split predictorWidths l in
+    let q : v ≡ values (predictorFields (predictorOf v)) = same-split (predictorFields (predictorOf v)) l e in
+    let at : (i : ℕ) → getD v i 0 ≡ getD (values (predictorFields (predictorOf v))) i 0 = λ i. ap (λ (x : List ℕ). getD x i 0) q in
+    whole (eqb (getD v 0 0) 0) (predictorTests v)
+    (eq-eqb _ 0 (at 0), (eq-eqb _ 0 (at 3), (eq-eqb _ 0 (at 5), (eq-eqb _ 0 (at 11), (eq-eqb (getD v 13 0) (getD v 12 0) (at 13 ∙ sym (at 12)), (where-forth (isOne (getD v 12 0)) (getD v 14 0) (predictorOf v .precision) (at 14), tt))))))
+
+predictor-back : (I : Image) (l : List Bool) → 40 ≤ length l → predictorLegal I (predictorOf (split predictorWidths l)) ≡ true → predictorPlain (split predictorWidths l) ≡ true
+    → same (take 40 l) (fields (predictorFields (predictorOf (split predictorWidths l)))) ≡ true
+unfolding predictorFields predictorOf widths values total split
+predictor-back I l h g e =
+    let v : List ℕ = split predictorWidths l in
+    let n : ℕ → ℕ = λ i. getD v i 0 in
+    let lt : (i : ℕ) → n i < 2 ^ getD predictorWidths i 0 = split-lt predictorWidths l in
+    let k = parts (eqb (n 0) 0) (predictorTests v) e in
+    split-same (predictorFields (predictorOf v)) l h
+    (λ i. eqb-true (n 0) 0 (k .0) i ∷ small 4 (n 1) (lt 1) i ∷ flagged (n 2) (lt 2) i ∷ eqb-true (n 3) 0 (k .1 .0) i ∷ flagged (n 4) (lt 4) i ∷ eqb-true (n 5) 0 (k .1 .1 .0) i
+    ∷ wrapped 6 (n 6) (lt 6) i ∷ shifted 4 (n 7) (lt 7) i ∷ exponent-back (n 8) (lt 8) (legal-predictor I (predictorOf v) g .interval-power) i
+    ∷ raised-back (n 9) (lt 9) i ∷ raised-back (n 10) (lt 10) i ∷ eqb-true (n 11) 0 (k .1 .1 .1 .0) i ∷ flagged (n 12) (lt 12) i
+    ∷ (eqb-true (n 13) (n 12) (k .1 .1 .1 .1 .0) ∙ flagged (n 12) (lt 12)) i ∷ where-back (isOne (n 12)) (n 14) (lt 14) (k .1 .1 .1 .1 .1 .0) i ∷ [])
+
+pub predictor-plain : (I : Image) (l : List Bool) → 40 ≤ length l
+    → (predictorLegal I (predictorOf (split predictorWidths l)) && same (take 40 l) (fields (predictorFields (predictorOf (split predictorWidths l)))))
+    ≡ (predictorLegal I (predictorOf (split predictorWidths l)) && predictorPlain (split predictorWidths l))
+predictor-plain I l h = and-same _ _ _ (λ g. both _ _ (predictor-forth l) (predictor-back I l h g))
+
+-- ---- the coder
+
+coder-forth : (l : List Bool) → same (take 16 l) (fields (coderFields (coderOf (split coderWidths l)))) ≡ true → coderPlain (split coderWidths l) ≡ true
+unfolding coderFields coderOf widths values total
+coder-forth l e =
+    let v : List ℕ = split coderWidths l in
+    ones-forth (isOne (getD v 4 0)) (getD v 3 0) (coderOf v .constant) (ap (λ (x : List ℕ). getD x 3 0) (same-split (coderFields (coderOf v)) l e))
+
+coder-back : (l : List Bool) → 16 ≤ length l → coderPlain (split coderWidths l) ≡ true → same (take 16 l) (fields (coderFields (coderOf (split coderWidths l)))) ≡ true
+unfolding coderFields coderOf widths values total split
+coder-back l h e =
+    let v : List ℕ = split coderWidths l in
+    let n : ℕ → ℕ = λ i. getD v i 0 in
+    let lt : (i : ℕ) → n i < 2 ^ getD coderWidths i 0 = split-lt coderWidths l in
+    split-same (coderFields (coderOf v)) l h
+    (λ i. wrapped 5 (n 0) (lt 0) i ∷ shifted 3 (n 1) (lt 1) i ∷ wrapped 3 (n 2) (lt 2) i ∷ ones-back (isOne (n 4)) (n 3) (lt 3) e i ∷ flagged (n 4) (lt 4) i ∷ [])
+
+pub coder-plain : (l : List Bool) → 16 ≤ length l → same (take 16 l) (fields (coderFields (coderOf (split coderWidths l)))) ≡ coderPlain (split coderWidths l)
+coder-plain l h = both _ _ (coder-forth l) (coder-back l h)
