@@ -12,4 +12,4 @@ pub mod reference;
 pub mod run;
 
 pub use call::{Call, Writer};
-pub use run::{run, Options, Report};
+pub use run::{run, run_and_tell, Options, Report};

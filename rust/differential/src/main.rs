@@ -2,7 +2,7 @@
 
 use std::process::ExitCode;
 
-use differential::{run, Options};
+use differential::{run_and_tell, Options};
 
 const USAGE: &str = "\
 usage: differential [--calls N] [--seed N] [--only INDEX]
@@ -10,19 +10,7 @@ Makes random calls of the archive and of the plain program and compares them.
 --only makes the one call of an index again and describes it.";
 
 fn main() -> ExitCode {
-    let options = match options() {
-        Ok(options) => options,
-        Err(message) => {
-            eprintln!("{message}");
-            return ExitCode::from(2);
-        }
-    };
-    let report = run(&options);
-    for missing in report.missing() {
-        println!("{missing}");
-    }
-    print!("{}", report.text());
-    ExitCode::from(u8::from(!report.is_good()))
+    run_and_tell(options())
 }
 
 fn options() -> Result<Options, String> {

@@ -1,5 +1,6 @@
 //! Many calls, and what came of them.
 
+use std::process::ExitCode;
 use std::time::Instant;
 
 use plain::make::Random;
@@ -102,6 +103,23 @@ pub fn run(options: &Options) -> Report {
     }
     report.seconds = started.elapsed().as_secs_f64();
     report
+}
+
+/// Makes the calls, prints what came of them, and gives the status of the program.
+pub fn run_and_tell(options: Result<Options, String>) -> ExitCode {
+    let options = match options {
+        Ok(options) => options,
+        Err(message) => {
+            eprintln!("{message}");
+            return ExitCode::from(2);
+        }
+    };
+    let report = run(&options);
+    for missing in report.missing() {
+        println!("{missing}");
+    }
+    print!("{}", report.text());
+    ExitCode::from(u8::from(!report.is_good()))
 }
 
 impl Report {

@@ -202,6 +202,7 @@ fn open_like_another_header_keeps_its_fields() {
         "{header}"
     );
     assert!(header.contains("interleave = bip"), "{header}");
+    assert_eq!(header.matches("file type").count(), 1, "{header}");
 }
 
 #[test]
@@ -222,6 +223,7 @@ fn the_usual_data_type_is_the_smallest() {
             header.contains(&format!("data type = {expected}\n")),
             "{header}"
         );
+        assert!(header.contains("file type = ENVI Standard\n"), "{header}");
     }
 }
 

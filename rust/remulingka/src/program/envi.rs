@@ -236,6 +236,10 @@ impl Header {
             self.interleave.name(),
             u8::from(self.big_endian),
         );
+        // Some programs ask for this field, which has but one value for images like these.
+        if !self.others.iter().any(|(name, _)| name == "file type") {
+            text.push_str("file type = ENVI Standard\n");
+        }
         for (name, value) in &self.others {
             text.push_str(&format!("{name} = {value}\n"));
         }
