@@ -69,12 +69,12 @@ fn commit_of_git() -> Option<String> {
     (output.status.success() && !name.is_empty()).then_some(name)
 }
 
-/// The command, without where it or its output lies: that is the machine's own.
+/// The command, without where its output lies and what the edition is called.
 fn command() -> String {
-    let mut command = String::from("bench");
+    let mut command = String::from("rust/target/release/bench");
     let mut words = std::env::args().skip(1);
     while let (Some(option), Some(value)) = (words.next(), words.next()) {
-        if option != "--output" {
+        if option == "--seconds" {
             command.push_str(&format!(" {option} {value}"));
         }
     }
