@@ -34,6 +34,7 @@ frameOf nx nz M y = join (λ i. rowOf nx y (i * M) (min M (nz - i * M))) 0 (subF
 unfoldable pub bandInterleaved : ℕ → ℕ → ℕ → ℕ → List Place
 bandInterleaved nx ny nz M = join (λ y. frameOf nx nz M y) 0 ny
 
+-- the order that the settings name (5.4.2)
 unfoldable pub order : Image → List Place
 order I =
     cond (I .sequential) (bandSequential (I .nx) (I .ny) (I .nz)) (bandInterleaved (I .nx) (I .ny) (I .nz) (I .interleave))

@@ -31,10 +31,11 @@ clears (BadCodeword rank) = true
 clears (AfterEnd count) = true
 clears BlockCoder = false
 
--- an area that held l: done from its start on, or after a refusal zero or untouched
+-- an area that held l: what is done from its start on, and the rest as it was
 abbrev pub filledFrom : {A : Type 0} → List A → List A → List A
 filledFrom done l = done ++ drop (length done) l
 
+-- an area that held l, after a refusal: zero, or as it was
 abbrev pub afterRefusal : {A : Type 0} → A → Refusal → List A → List A
 afterRefusal zero w l = cond (clears w) (replicate (length l) zero) l
 
@@ -52,11 +53,12 @@ unfoldable pub openAnswer : Read Cube → Opened
 openAnswer (got c r) = opening.Settings (c .settings)
 openAnswer (refused w) = opening.Refused w
 
--- the image area and the table area that held l
+-- the image area that held l
 unfoldable pub imageAfter : Read Cube → List ℤ → List ℤ
 imageAfter (got c r) l = filledFrom (c .samples) l
 imageAfter (refused w) l = afterRefusal (pos 0) w l
 
+-- the table area that held l
 unfoldable pub tablesAfter : Read Cube → List ℤ → List ℤ
 tablesAfter (got c r) l = filledFrom (c .tables) l
 tablesAfter (refused w) l = afterRefusal (pos 0) w l
@@ -67,10 +69,12 @@ lentOf scratch tables image = record { scratch = length scratch; tables = length
 
 -- ---- the calls' statements
 
+-- pack: what it answers, and what the output holds
 pub record Packs (S : Settings) (tables samples scratch : List ℤ) (out : List ℕ) (r : Packed) (out′ : List ℕ) : Type 0 where
   pub answer : r ≡ packed S tables samples (length scratch) (length out)
   pub output : out′ ≡ outAfter S tables samples (packed S tables samples (length scratch) (length out)) out
 
+-- open: what it answers, and what the table and image areas hold
 pub record Opens (bytes : List ℕ) (scratch tables image : List ℤ) (r : Opened) (tables′ image′ : List ℤ) : Type 0 where
   pub answer : r ≡ openAnswer (opened (lentOf scratch tables image) bytes)
   pub table-area : tables′ ≡ tablesAfter (opened (lentOf scratch tables image) bytes) tables

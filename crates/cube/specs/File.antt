@@ -20,6 +20,7 @@ use Rattle.cube.specs.declared.Packed.the-variants as answer
 unfoldable pub fileBits : Settings → List ℤ → List ℤ → List Bool
 fileBits S tables samples = filled (8 * S .image .word) (header S tables ++ body S tables samples)
 
+-- its bytes
 unfoldable pub file : Settings → List ℤ → List ℤ → List ℕ
 file S tables samples = pack (fileBits S tables samples)
 

@@ -51,8 +51,10 @@ behindHeader lent size h l =
     (readBody (h .settings) (h .tables) 0 (order (h .settings .image)) (replicate (sampleCount (h .settings .image)) (pos 0)) l)
     (λ samples rest. atEnd h (size - length rest) samples rest))
 
+-- a file by its bits: the header, then what stands behind it
 unfoldable pub openedBits : Lent → List Bool → Read Cube
 openedBits lent l = andThen (readHeader l) (behindHeader lent (length l))
 
+-- a file by its bytes
 unfoldable pub opened : Lent → List ℕ → Read Cube
 opened lent bytes = openedBits lent (unpack bytes)

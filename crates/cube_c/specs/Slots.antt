@@ -11,6 +11,7 @@ use Rattle.settings.specs.declared.Predictor.{Predictor}
 use Rattle.settings.specs.declared.Coder.{Coder}
 use Rattle.settings.specs.declared.Settings.{Settings}
 
+-- the slots of a settings list
 abbrev pub slotCount : ℕ
 slotCount = 24
 
@@ -18,10 +19,11 @@ slotCount = 24
 abbrev pub slot : List ℤ → ℕ → ℤ
 slot l i = getD l i (pos 0)
 
--- 0 ≤ v, and 0 ≤ v ≤ high
+-- 0 ≤ v
 abbrev pub natural : ℤ → Bool
 natural v = leZ (pos 0) v
 
+-- 0 ≤ v ≤ high
 abbrev pub upTo : ℤ → ℕ → Bool
 upTo v high = leZ (pos 0) v && leZ v (pos high)
 
@@ -29,25 +31,28 @@ upTo v high = leZ (pos 0) v && leZ v (pos high)
 abbrev pub isSet : ℤ → Bool
 isSet v = leZ (pos 1) v
 
--- the record can hold the slots of a part; one that is no setting is not looked at
+-- the image's record can hold its slots; one that is no setting is not looked at
 unfoldable pub imageHolds : List ℤ → Bool
 imageHolds l =
     upTo (slot l 0) 255 && natural (slot l 1) && natural (slot l 2) && natural (slot l 3) && upTo (slot l 4) 1 && natural (slot l 5)
     && upTo (slot l 6) 1 && (isSet (slot l 6) || natural (slot l 7)) && natural (slot l 8)
 
+-- the predictor's
 unfoldable pub predictorHolds : List ℤ → Bool
 predictorHolds l =
     natural (slot l 9) && upTo (slot l 10) 1 && upTo (slot l 11) 1 && natural (slot l 12) && natural (slot l 13) && natural (slot l 14)
     && upTo (slot l 17) 1 && (not (isSet (slot l 17)) || natural (slot l 18))
 
+-- the coder's
 unfoldable pub coderHolds : List ℤ → Bool
 coderHolds l =
     natural (slot l 19) && natural (slot l 20) && natural (slot l 21) && upTo (slot l 22) 1 && (isSet (slot l 22) || natural (slot l 23))
 
+-- all three
 unfoldable pub holds : List ℤ → Bool
 holds l = imageHolds l && predictorHolds l && coderHolds l
 
--- the record that the slots name
+-- the image settings that the slots name
 unfoldable pub imageFrom : List ℤ → Image
 imageFrom l = record {
   user = natAbs (slot l 0);
@@ -61,6 +66,7 @@ imageFrom l = record {
   word = natAbs (slot l 8);
 }
 
+-- the predictor settings
 unfoldable pub predictorFrom : List ℤ → Predictor
 predictorFrom l = record {
   bands = natAbs (slot l 9);
@@ -75,6 +81,7 @@ predictorFrom l = record {
   precision = cond (isSet (slot l 17)) (natAbs (slot l 18)) 0;
 }
 
+-- the coder settings
 unfoldable pub coderFrom : List ℤ → Coder
 coderFrom l = record {
   unary = natAbs (slot l 19);
@@ -84,6 +91,7 @@ coderFrom l = record {
   constant = cond (isSet (slot l 22)) 0 (natAbs (slot l 23));
 }
 
+-- the settings
 unfoldable pub settingsFrom : List ℤ → Settings
 settingsFrom l = record { image = imageFrom l; predictor = predictorFrom l; coder = coderFrom l }
 

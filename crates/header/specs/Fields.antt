@@ -10,6 +10,7 @@ pub record Field : Type 0 where
   pub width : ℕ
   pub value : ℕ
 
+-- a field as it is written in lists
 abbrev pub _∶_ : ℕ → ℕ → Field
 w ∶ v = record { width = w; value = v }
 

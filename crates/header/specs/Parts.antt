@@ -16,6 +16,7 @@ imageFields I coder =
     8 ∶ I .user ∷ 16 ∶ I .nx ∷ 16 ∶ I .ny ∷ 16 ∶ I .nz ∷ 1 ∶ flag (I .signed) ∷ 2 ∶ 0 ∷ 4 ∶ I .depth
     ∷ 1 ∶ flag (I .sequential) ∷ 16 ∶ cond (I .sequential) 0 (I .interleave) ∷ 2 ∶ 0 ∷ 3 ∶ I .word ∷ 1 ∶ coder ∷ 10 ∶ 0 ∷ []
 
+-- the widths of table 5-1
 abbrev pub imageWidths : List ℕ
 imageWidths = 8 ∷ 16 ∷ 16 ∷ 16 ∷ 1 ∷ 2 ∷ 4 ∷ 1 ∷ 16 ∷ 2 ∷ 3 ∷ 1 ∷ 10 ∷ []
 
@@ -32,6 +33,7 @@ predictorFields P =
     ∷ 4 ∶ natAbs (P .vmax +ℤ pos 6) ∷ 1 ∶ 0 ∷ 1 ∶ flag (P .custom) ∷ 1 ∶ flag (P .custom)
     ∷ 5 ∶ cond (P .custom) (P .precision) 0 ∷ []
 
+-- the widths of table 5-2
 abbrev pub predictorWidths : List ℕ
 predictorWidths = 2 ∷ 4 ∷ 1 ∷ 1 ∷ 1 ∷ 1 ∷ 6 ∷ 4 ∷ 4 ∷ 4 ∷ 4 ∷ 1 ∷ 1 ∷ 1 ∷ 5 ∷ []
 
@@ -40,6 +42,7 @@ unfoldable pub coderFields : Coder → List Field
 coderFields C =
     5 ∶ C .unary ∷ 3 ∶ (C .rescaling - 4) ∷ 3 ∶ C .initial ∷ 4 ∶ cond (C .tabled) 15 (C .constant) ∷ 1 ∶ flag (C .tabled) ∷ []
 
+-- the widths of table 5-3
 abbrev pub coderWidths : List ℕ
 coderWidths = 5 ∷ 3 ∷ 3 ∷ 4 ∷ 1 ∷ []
 
@@ -49,6 +52,7 @@ coderWidths = 5 ∷ 3 ∷ 3 ∷ 4 ∷ 1 ∷ []
 abbrev pub unwrapped : ℕ → ℕ → ℕ
 unwrapped m v = cond (eqb v 0) m v
 
+-- a flag off its number
 abbrev pub isOne : ℕ → Bool
 isOne v = eqb v 1
 
@@ -97,6 +101,7 @@ coderOf v = record {
 
 -- ---- settings that are none: M when band-sequential, Q with default weights, K beside its table
 
+-- M as 0 where bands are sequential
 unfoldable pub usedImage : Image → Image
 usedImage I = record {
   user = I .user;
@@ -110,6 +115,7 @@ usedImage I = record {
   word = I .word;
 }
 
+-- Q as 0 where weights are the default ones
 unfoldable pub usedPredictor : Predictor → Predictor
 usedPredictor P = record {
   bands = P .bands;
@@ -124,6 +130,7 @@ usedPredictor P = record {
   precision = cond (P .custom) (P .precision) 0;
 }
 
+-- K as 0 where there is a table of k'
 unfoldable pub usedCoder : Coder → Coder
 usedCoder C = record {
   unary = C .unary;

@@ -25,6 +25,7 @@ use Rattle.header.specs.Tables.{componentsBefore, numberAt, tablesOf}
 abbrev pub present : {A : Type 0} → ℕ → List Bool → Read A → Read A
 present n l x = unless (firstHit (ltb (length l) n ⇒ EndsInHeader ∷ [])) x
 
+-- table 5-1; its fields come before the coder's type, and that before the house limits
 unfoldable pub readImage : List Bool → Read Image
 readImage l =
     present 96 l
@@ -38,6 +39,7 @@ readImage l =
     v : List ℕ
     v = split imageWidths l
 
+-- table 5-2
 unfoldable pub readPredictor : Image → List Bool → Read Predictor
 readPredictor I l =
     present 40 l
@@ -48,6 +50,7 @@ readPredictor I l =
     v : List ℕ
     v = split predictorWidths l
 
+-- table 5-3
 unfoldable pub readCoder : Image → List Bool → Read Coder
 readCoder I l =
     present 16 l
@@ -80,6 +83,7 @@ pub record Header : Type 0 where
   pub settings : Settings
   pub tables : List ℤ
 
+-- one part behind the other (5.3.1); the first refusal stands
 unfoldable pub readHeader : List Bool → Read Header
 readHeader l =
     andThen (readImage l) (λ I l₁.

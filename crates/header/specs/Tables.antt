@@ -11,11 +11,12 @@ use Rattle.settings.specs.declared.Settings.{Settings}
 use Rattle.settings.specs.Lists.{join, one, sumBelow}
 use Rattle.settings.specs.Tables.{stride, accumulatorSlot, entry, componentCount}
 
--- a signed number of q bits in two's complement, and back
+-- a signed number of q bits in two's complement
 unfoldable pub twos : ℕ → ℤ → ℕ
 twos q (pos n) = n
 twos q (negsuc n) = 2 ^ q - suc n
 
+-- and back
 unfoldable pub signedOf : ℕ → ℕ → ℤ
 signedOf q v = cond (ltb v (2 ^ (q - 1))) (pos v) (pos v -ℤ pos (2 ^ q))
 

@@ -17,6 +17,7 @@ weightPart S tables = cond (S .predictor .custom) (filled 8 (weightTable (S .pre
 unfoldable pub accumulatorPart : Settings → List ℤ → List Bool
 accumulatorPart S tables = cond (S .coder .tabled) (filled 8 (accumulatorTable (S .image .nz) tables)) []
 
+-- the parts of image, predictor and coder, each with its table (5.3.1)
 unfoldable pub header : Settings → List ℤ → List Bool
 header S tables =
     fields (imageFields (S .image) 0)
