@@ -1,5 +1,1 @@
-// Section 4 of the standard: local sums and differences, the prediction, the weights, and the mapped residual.
-pub mod mapping;
-pub mod prediction;
-pub mod sums;
-pub mod weights;
+// Section 4 of the standard as definitions and laws: see specs/. Its functions are those of `predictor_steps`.
