@@ -11,6 +11,7 @@ unfoldable pub halvings : ℕ → ℕ → ℕ
 halvings zero x = 0
 halvings (suc n) x = cond (leb x 1) 0 (suc (halvings n (x / 2)))
 
+-- what the walk looks up once
 unfoldable pub planOf : Settings → Plan
 planOf S =
     record {

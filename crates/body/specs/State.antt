@@ -38,10 +38,11 @@ unfoldable pub bandAt : Settings → List ℤ → predictor.Image → ℕ → �
 bandAt S tables I z t =
     record { weights = weightsAt S tables I z t; statistics = statisticsAt S tables z (mappedAt S tables I z) t }
 
--- the slots behind those of the weights, which start at 0
+-- the slot of Γ, behind those of the weights, which start at 0
 abbrev pub countSlot : ℕ
 countSlot = 18
 
+-- the slot of Σ
 abbrev pub sumSlot : ℕ
 sumSlot = 19
 

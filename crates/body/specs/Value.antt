@@ -39,11 +39,12 @@ behind S t us s~ s b =
       statistics = nextStatistics (S .coder .rescaling) (mapped S s~ s) (b .statistics);
     }
 
--- the state that slots hold, with n weights
+-- the statistics that slots hold
 unfoldable pub statisticsIn : List ℤ → Statistics
 statisticsIn slots =
     record { count = natAbs (getD slots countSlot (pos 0)); accumulator = natAbs (getD slots sumSlot (pos 0)) }
 
+-- the state that slots hold, with n weights
 unfoldable pub bandIn : ℕ → List ℤ → Band
 bandIn n slots = record { weights = take n slots; statistics = statisticsIn slots }
 

@@ -81,6 +81,7 @@ pub record Decoded (S : Settings) (slots us : List ℤ) (sum : ℤ) (F : List Bo
   pub held : Holds slots′ (behind S t us (scaledIn S slots us sum) s (bandIn (length us) slots))
   pub inside : a ≤ length F
 
+-- what an answer says of the value at bit `at`
 abbrev pub Tried : Settings → List ℤ → List ℤ → ℤ → List Bool → ℕ → ℕ → List ℤ → Found → Type 0
 Tried S slots us sum F at t slots′ (found.Sample s a) = Decoded S slots us sum F at t slots′ s a
 Tried S slots us sum F at t slots′ found.Short = parsedIn S slots (drop at F) ≡ short

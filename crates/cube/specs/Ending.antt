@@ -17,6 +17,7 @@ use Rattle.cube.specs.Open.{Cube, atEnd}
 use Rattle.cube.specs.declared.ending.Ending.{Ending}
 use Rattle.cube.specs.declared.ending.Ending.the-variants.{Whole, TooShort, Behind}
 
+-- what stands behind a body that ends at bit `end`: `l` is the rest of the file
 unfoldable pub endOf : ℕ → ℕ → List Bool → Ending
 endOf word end l =
     cond (ltb (length l) fill) TooShort (cond (ltb fill (length l) || not (same l (zeros fill))) Behind Whole)

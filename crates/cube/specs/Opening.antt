@@ -30,6 +30,7 @@ answerOf S F (gone.At a) = endAnswer S (endOf (S .image .word) a (drop a F))
 answerOf S F (gone.Short rank) = opening.Refused (BodyEnds rank)
 answerOf S F (gone.Bad rank) = opening.Refused (BadCodeword rank)
 
+-- whether an answer is a refusal
 unfoldable pub isRefused : Opened → Bool
 isRefused (opening.Settings S) = false
 isRefused (opening.Refused w) = true

@@ -30,6 +30,7 @@ use Rattle.body.specs.Order.{columnOf, rowOf, bandSequential, subFrames, frameO
 use Rattle.body.specs.Body.{code, codes, body}
 use Rattle.cube.specs.File.{fileBits, file}
 
+-- signed samples of 12 bits, 3 × 3 × 2, in either order
 abbrev settings : Bool → ℕ → Settings
 settings sequential depth = record {
   image = record { user = 77; nx = 3; ny = 3; nz = 2; signed = true; depth = 12; sequential = sequential; interleave = depth; word = 3 };
@@ -37,16 +38,19 @@ settings sequential depth = record {
   coder = record { unary = 9; rescaling = 5; initial = 2; tabled = true; constant = 0 };
 }
 
+-- weights of four bits and a k' for each band
 abbrev tables : List ℤ
 tables =
     pos 1 ∷ negsuc 1 ∷ pos 3 ∷ pos 0 ∷ pos 0 ∷ pos 0 ∷ pos 0 ∷ pos 0 ∷ pos 0 ∷ pos 0 ∷ pos 0 ∷ pos 0 ∷ pos 0 ∷ pos 0 ∷ pos 0 ∷ pos 0 ∷ pos 0 ∷ pos 0 ∷ pos 2
     ∷ negsuc 3 ∷ pos 3 ∷ pos 0 ∷ pos 2 ∷ pos 0 ∷ pos 0 ∷ pos 0 ∷ pos 0 ∷ pos 0 ∷ pos 0 ∷ pos 0 ∷ pos 0 ∷ pos 0 ∷ pos 0 ∷ pos 0 ∷ pos 0 ∷ pos 0 ∷ pos 0 ∷ pos 5 ∷ []
 
+-- both ends of the range, and values between
 abbrev samples : List ℤ
 samples =
     negsuc 2047 ∷ pos 2047 ∷ pos 5 ∷ pos 17 ∷ negsuc 299 ∷ pos 301 ∷ pos 40 ∷ pos 41 ∷ negsuc 41
     ∷ pos 100 ∷ negsuc 99 ∷ pos 99 ∷ pos 2047 ∷ negsuc 2047 ∷ pos 0 ∷ pos 7 ∷ pos 9 ∷ negsuc 10 ∷ []
 
+-- the files, byte by byte
 pub record Small : Type 0 where
   sequential : file (settings true 0) tables samples
       ≡ 0x4D ∷ 0x00 ∷ 0x03 ∷ 0x00 ∷ 0x03 ∷ 0x00 ∷ 0x02 ∷ 0x99 ∷ 0x00 ∷ 0x00 ∷ 0x18 ∷ 0x00 ∷ 0x04 ∷ 0x28 ∷ 0x20 ∷ 0x4B

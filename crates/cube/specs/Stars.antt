@@ -42,9 +42,11 @@ worked x d w = record {
 abbrev maps : ℤ → List ℕ
 maps s = map (λ x. mapped (worked 1 3 1) s (pos x)) (0 ∷ 1 ∷ 2 ∷ 3 ∷ 4 ∷ 5 ∷ 6 ∷ 7 ∷ [])
 
+-- Γ and Σ
 abbrev statistics : ℕ → ℕ → Statistics
 statistics c a = record { count = c; accumulator = a }
 
+-- the numbers, each computed from the definitions
 pub record Stars : Type 0 where
   -- the files of one sample, 130, and of two, 130 and 131, in words of one byte and of two
   one-sample : file (worked 1 8 1) [] (pos 130 ∷ [])

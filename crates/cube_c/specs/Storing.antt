@@ -10,7 +10,7 @@ use Rattle.cube.specs.declared.Opened.{Opened}
 use Rattle.cube.specs.declared.Opened.the-variants as opening
 use Rattle.cube_c.specs.Slots.{flagSlot}
 
--- each number is below 2^31
+-- each number of the image's part is below 2^31
 pub record SmallImage (I : Image) : Type 0 where
   pub nx-small : I .nx < 2 ^ 31
   pub ny-small : I .ny < 2 ^ 31
@@ -19,6 +19,7 @@ pub record SmallImage (I : Image) : Type 0 where
   pub interleave-small : I .interleave < 2 ^ 31
   pub word-small : I .word < 2 ^ 31
 
+-- of the predictor's part
 pub record SmallPredictor (P : Predictor) : Type 0 where
   pub bands-small : P .bands < 2 ^ 31
   pub register-small : P .register < 2 ^ 31
@@ -26,12 +27,14 @@ pub record SmallPredictor (P : Predictor) : Type 0 where
   pub interval-small : P .interval < 2 ^ 31
   pub precision-small : P .precision < 2 ^ 31
 
+-- of the coder's part
 pub record SmallCoder (C : Coder) : Type 0 where
   pub unary-small : C .unary < 2 ^ 31
   pub rescaling-small : C .rescaling < 2 ^ 31
   pub initial-small : C .initial < 2 ^ 31
   pub constant-small : C .constant < 2 ^ 31
 
+-- of all three
 pub record Small (S : Settings) : Type 0 where
   pub image-small : SmallImage (S .image)
   pub predictor-small : SmallPredictor (S .predictor)
@@ -42,16 +45,18 @@ unfoldable pub Storable : Opened → Type 0
 Storable (opening.Settings S) = Small S
 Storable (opening.Refused w) = Unit {0}
 
--- the slots of each part
+-- the slots of the image's part
 unfoldable pub imageSlots : Image → List ℤ
 imageSlots I =
     pos (I .user) ∷ pos (I .nx) ∷ pos (I .ny) ∷ pos (I .nz) ∷ flagSlot (I .signed) ∷ pos (I .depth) ∷ flagSlot (I .sequential)
     ∷ pos (I .interleave) ∷ pos (I .word) ∷ []
 
+-- of the predictor's part
 unfoldable pub predictorSlots : Predictor → List ℤ
 predictorSlots P =
     pos (P .bands) ∷ flagSlot (P .reduced) ∷ flagSlot (P .column) ∷ pos (P .register) ∷ pos (P .resolution) ∷ pos (P .interval)
     ∷ P .vmin ∷ P .vmax ∷ flagSlot (P .custom) ∷ pos (P .precision) ∷ []
 
+-- of the coder's part
 unfoldable pub coderSlots : Coder → List ℤ
 coderSlots C = pos (C .unary) ∷ pos (C .rescaling) ∷ pos (C .initial) ∷ flagSlot (C .tabled) ∷ pos (C .constant) ∷ []

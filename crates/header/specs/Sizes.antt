@@ -16,9 +16,11 @@ padded n = n + filling 8 n
 abbrev pub weightBits : Image → Predictor → ℕ
 weightBits I P = P .precision * componentsBefore P (I .nz)
 
+-- the bits of the weight table, where there is one
 unfoldable pub weightsSize : Image → Predictor → ℕ
 weightsSize I P = cond (P .custom) (padded (weightBits I P)) 0
 
+-- the bits of the table of k', where there is one
 unfoldable pub accumulatorsSize : Image → Coder → ℕ
 accumulatorsSize I C = cond (C .tabled) (padded (4 * I .nz)) 0
 

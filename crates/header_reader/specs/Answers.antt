@@ -29,12 +29,15 @@ abbrev pub answered : {A B : Type 0} → (A → B) → (Refusal → B) → Read 
 answered value why (got a l) = value a
 answered value why (refused w) = why w
 
+-- the answer to the image's part
 abbrev pub imageRead : Read Image → ImageRead
 imageRead = answered image.Image image.Refused
 
+-- the answer to the predictor's part
 abbrev pub predictorRead : Read Predictor → PredictorRead
 predictorRead = answered predictor.Predictor predictor.Refused
 
+-- the answer to the coder's part
 abbrev pub coderRead : Read Coder → CoderRead
 coderRead = answered coder.Coder coder.Refused
 
@@ -44,19 +47,23 @@ tableRead = answered (λ table. checked.Passed) checked.Refused
 
 -- ---- how far a header is read off the file F
 
+-- behind the image's part
 pub record ImageDone (F : List Bool) (I : Image) : Type 0 where
   pub image : readImage F ≡ got I (drop 96 F)
 
+-- behind the predictor's part
 pub record PredictorDone (F : List Bool) (I : Image) (P : Predictor) : Type 0 where
   pub before : ImageDone F I
   pub predictor : readPredictor I (drop 96 F) ≡ got P (drop 136 F)
 
+-- behind the weight table, at the position `at`
 pub record WeightsDone (F : List Bool) (I : Image) (P : Predictor) (at : ℕ) : Type 0 where
   pub before : PredictorDone F I P
   pub place : at ≡ 136 + weightsSize I P
   pub table : List Bool
   pub weights : readWeights I P (drop 136 F) ≡ got table (drop at F)
 
+-- behind the coder's part, at the position `at`
 pub record CoderDone (F : List Bool) (S : Settings) (at : ℕ) : Type 0 where
   pub from : ℕ
   pub before : WeightsDone F (S .image) (S .predictor) from

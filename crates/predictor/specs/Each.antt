@@ -6,6 +6,7 @@ use lib.IntN.{ℤ, pos}
 use lib.ListN.{getD}
 use Rattle.settings.specs.Lists.{join, one}
 
+-- Q holds of each
 pub record Each (Q : ℤ → Type 0) (l : List ℤ) : Type 0 where
   pub at : (i : ℕ) → Q (getD l i (pos 0))
 
