@@ -34,10 +34,11 @@ use Rattle.predictor.specs.Differences.{imageOf}
 use Rattle.body.specs.Body.{codes, readBody}
 use Rattle.cube.specs.declared.Opened.{Opened}
 use Rattle.cube.specs.declared.Opened.the-variants as opening
-use Rattle.cube.specs.declared.ending.Ending.{Ending}
-use Rattle.cube.specs.declared.ending.Ending.the-variants.{Whole, TooShort, Behind}
+use Rattle.closing.specs.declared.ending.Ending.{Ending}
+use Rattle.closing.specs.declared.ending.Ending.the-variants.{Whole, TooShort, Behind}
 use Rattle.cube.specs.Open.{Cube, Lent, atEnd, behindHeader, openedBits, opened}
-use Rattle.cube.specs.Ending.{endOf, ended, at-end-is}
+use Rattle.closing.specs.Ending.{endOf}
+use Rattle.cube.specs.Ending.{ended, at-end-is}
 use Rattle.cube.specs.Opening.{endAnswer, answerOf, isRefused, Reached, Lendable}
 use Rattle.body_reader.specs.declared.Gone.{Gone}
 use Rattle.body_reader.specs.declared.Gone.the-variants as gone

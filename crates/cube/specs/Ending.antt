@@ -1,4 +1,4 @@
--- What stands behind the body, at bit `end` of a file, where words have so many bytes; and what it makes of an opened file.
+-- What the end of a file makes of an opened one.
 use mathlib.Core.Path.{_≡_, refl}
 use mathlib.Core.Bool.{Bool, true, false, cond, not, _||_}
 use mathlib.Core.List.{List, [], _∷_}
@@ -14,16 +14,9 @@ use Rattle.settings.specs.Reading.{Read, got, refused, unless}
 use Rattle.header.specs.Fields.{same}
 use Rattle.header.specs.Read.{Header}
 use Rattle.cube.specs.Open.{Cube, atEnd}
-use Rattle.cube.specs.declared.ending.Ending.{Ending}
-use Rattle.cube.specs.declared.ending.Ending.the-variants.{Whole, TooShort, Behind}
-
--- what stands behind a body that ends at bit `end`: `l` is the rest of the file
-unfoldable pub endOf : ℕ → ℕ → List Bool → Ending
-endOf word end l =
-    cond (ltb (length l) fill) TooShort (cond (ltb fill (length l) || not (same l (zeros fill))) Behind Whole)
-  where
-    fill : ℕ
-    fill = filling (8 * word) end
+use Rattle.closing.specs.Ending.{endOf}
+use Rattle.closing.specs.declared.ending.Ending.{Ending}
+use Rattle.closing.specs.declared.ending.Ending.the-variants.{Whole, TooShort, Behind}
 
 -- the answer for each ending
 unfoldable pub ended : Header → List ℤ → Ending → Read Cube

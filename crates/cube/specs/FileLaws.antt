@@ -3,14 +3,13 @@ use mathlib.Core.Path.{_≡_, refl, sym, _∙_, ap, ap₂, subst}
 use mathlib.Core.Bool.{Bool, true, false, cond, not, _||_}
 use mathlib.Core.List.{List, [], _∷_, _++_, append-assoc, append-nil}
 use Prim.Native.Nat.{ℕ, zero, suc, _+_, _-_, _*_, _/_, _%_, _^_, _<_, _≤_}
-use native.Mathlib.Nat.{div-add-mod', mul-assoc, mul-comm}
 use native.Mathlib.Omega.{arith}
 use lib.IntN.{ℤ, pos}
 use lib.ListN.{length, getD, replicate, length-append, length-replicate, getD-replicate}
 use lib.Dec.{ltb}
 use borrow.Author.Tests.{le-ltb, not-false}
 use Rattle.bitstream.specs.Stream.{Bytes, pack, unpack, zeros, filling, filled}
-use Rattle.bitstream.specs.Laws.{unpack-pack, pack-unpack, filled-whole}
+use Rattle.bitstream.specs.Laws.{unpack-pack, pack-unpack, filled-whole, whole-bytes}
 use Rattle.settings.specs.declared.Settings.{Settings}
 use Rattle.settings.specs.declared.Refusal.{Refusal}
 use Rattle.settings.specs.declared.Refusal.the-variants.{WrongCount, ShortArea, BodyEnds, AfterEnd}
@@ -72,12 +71,6 @@ module _ (h : Header) (end : ℕ) (samples : List ℤ) where
       record { zeros-left = same-true l (zeros fill) (not-false (same l (zeros fill)) (o .1)); kept = cc; nothing-left = cc }
 
 -- ---- bits and bytes of a file
-
-pub whole-bytes : (w n : ℕ) → n % (8 * w) ≡ 0 → n % 8 ≡ 0
-whole-bytes w n e =
-    let d : n / (8 * w) * (8 * w) + n % (8 * w) ≡ n = div-add-mod' n (8 * w) in
-    let a : n / (8 * w) * (8 * w) ≡ 8 * (w * (n / (8 * w))) = mul-comm (n / (8 * w)) (8 * w) ∙ mul-assoc 8 w (n / (8 * w)) in
-    omega arith
 
 pub file-bits : (S : Settings) (tables samples : List ℤ) → 0 < S .image .word → unpack (file S tables samples) ≡ fileBits S tables samples
 unfolding file fileBits

@@ -14,9 +14,9 @@ use Rattle.body_reader.specs.declared.Gone.{Gone}
 use Rattle.body_reader.specs.declared.Gone.the-variants as gone
 use Rattle.cube.specs.declared.Opened.{Opened}
 use Rattle.cube.specs.declared.Opened.the-variants as opening
-use Rattle.cube.specs.declared.ending.Ending.{Ending}
-use Rattle.cube.specs.declared.ending.Ending.the-variants.{Whole, TooShort, Behind}
-use Rattle.cube.specs.Ending.{endOf}
+use Rattle.closing.specs.declared.ending.Ending.{Ending}
+use Rattle.closing.specs.declared.ending.Ending.the-variants.{Whole, TooShort, Behind}
+use Rattle.closing.specs.Ending.{endOf}
 
 -- the answer for each ending
 unfoldable pub endAnswer : Settings → Ending → Opened

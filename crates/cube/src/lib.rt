@@ -1,6 +1,4 @@
 // The cube file and the four public calls: pack and length, open, look.
-mod clear;
-mod ending;
 pub mod look;
 pub mod open;
 pub mod pack;

@@ -1,11 +1,11 @@
 // Opening: any bytes, any areas get an answer, and after a refusal no half image is left.
 use super::Opened;
-use super::clear::clear_slots;
-use super::ending::Ending;
-use super::ending::end_of;
 use body::plan::plan_of;
 use body_reader::Gone;
 use body_reader::walk::read_body;
+use closing::clear::clear_slots;
+use closing::ending::Ending;
+use closing::ending::end_of;
 use header_reader::read::HeaderRead;
 use header_reader::read::read_header;
 use header_reader::store::store_tables;

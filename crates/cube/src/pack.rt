@@ -1,11 +1,11 @@
 // Packing, and the length count: one walk serves both.
 use super::Packed;
-use super::clear::clear_bytes;
 use bitstream::write::fill;
 use bitstream::write::finish;
 use bitstream::write::start;
 use body::plan::plan_of;
 use body::write::write_body;
+use closing::clear::clear_bytes;
 use header::write::write_header;
 use settings::Checked;
 use settings::Refusal;
@@ -48,12 +48,12 @@ fn pack_fine(
     requires { ⌜ Fine s (now tables) (now samples) (length (now scratch)) ⌝ }
     ensures { λ r. ⌜ Packs s (now (tables .entry)) (now (samples .entry)) (now (scratch .entry)) (now (out .entry)) r (now (out .exit)) ⌝ }
 {
-    let n = write_file(s, tables, samples, scratch, &mut *out);
-    if out.len() < n {
+    let size = write_file(s, tables, samples, scratch, &mut *out);
+    if out.len() < size {
         clear_bytes(out);
-        return Packed::Refused(Refusal::NoRoom(n as u64));
+        return Packed::Refused(Refusal::NoRoom(size as u64));
     }
-    Packed::Length(n as u64)
+    Packed::Length(size as u64)
 }
 
 // The public call: any settings, any areas get an answer.

@@ -16,7 +16,7 @@ use Rattle.cube.proofs.open.answer_of.Statement.{statement}
 use Rattle.cube.proofs.open.answer_of.Tie as tie
 use Rattle.cube.proofs.open.answer_of.Reads as reads
 use Rattle.cube.proofs.open.answer_of.Lts as lts
-use Rattle.cube.proofs.ending.end_of.Reads as end-of-reads
+use Rattle.closing.proofs.ending.end_of.Reads as end-of-reads
 use Rattle.settings.proofs.legal.sample_count.Reads as sample-count-reads
 
 -- src/open.rt:36:9

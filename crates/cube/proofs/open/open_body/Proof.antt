@@ -13,7 +13,7 @@ use Rattle.cube.proofs.open.open_body.Reads as reads
 use Rattle.cube.proofs.open.open_body.Lts as lts
 use Rattle.body.proofs.plan.plan_of.Reads as plan-of-reads
 use Rattle.body_reader.proofs.walk.read_body.Reads as read-body-reads
-use Rattle.cube.proofs.clear.clear_slots.Reads as clear-slots-reads
+use Rattle.closing.proofs.clear.clear_slots.Reads as clear-slots-reads
 use Rattle.cube.proofs.open.answer_of.Reads as answer-of-reads
 use Rattle.cube.proofs.open.is_refused.Reads as is-refused-reads
 use Rattle.header_reader.proofs.store.store_tables.Reads as store-tables-reads

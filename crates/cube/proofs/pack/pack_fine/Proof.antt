@@ -9,7 +9,7 @@ use Rattle.cube.proofs.pack.pack_fine.Statement.{statement}
 use Rattle.cube.proofs.pack.pack_fine.Tie as tie
 use Rattle.cube.proofs.pack.pack_fine.Reads as reads
 use Rattle.cube.proofs.pack.pack_fine.Lts as lts
-use Rattle.cube.proofs.clear.clear_bytes.Reads as clear-bytes-reads
+use Rattle.closing.proofs.clear.clear_bytes.Reads as clear-bytes-reads
 use Rattle.cube.proofs.pack.write_file.Reads as write-file-reads
 
 -- src/pack.rt:63:9

@@ -6,7 +6,7 @@ ghost use Prim.Native.Nat.{_+_, _*_, _^_, _<_, _≤_};
 ghost use lib.ListN.{length, take, drop};
 ghost use Rattle.bitstream.specs.Stream.{unpack, zeros};
 ghost use Rattle.header.specs.Fields.{same};
-ghost use Rattle.cube.specs.Ending.{endOf};
+ghost use Rattle.closing.specs.Ending.{endOf};
 
 // What stands behind the body.
 pub enum Ending {

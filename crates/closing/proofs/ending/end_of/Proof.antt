@@ -8,13 +8,13 @@ use Prim.Native.Nat.{ℕ, _+_, _*_, _/_, _<_, _≤_}
 use lib.ListN.{length, length-drop}
 use Rattle.bitstream.specs.Stream.{filling, unpack}
 use Rattle.bitstream.specs.Laws.{filling-lt, length-unpack}
-use Rattle.cube.proofs.Endings.{whole, short-end, long-end, ends}
+use Rattle.closing.proofs.Endings.{whole, short-end, long-end, ends}
 use borrow.Author.Needs.{needs}
-use Rattle.cube.proofs.ending.end_of.Statement.{statement}
-use Rattle.cube.proofs.ending.end_of.Tie as tie
-use Rattle.cube.proofs.ending.end_of.Reads as reads
-use Rattle.cube.proofs.ending.end_of.Lts as lts
-use Rattle.cube.proofs.ending.zero_field.Reads as zero-field-reads
+use Rattle.closing.proofs.ending.end_of.Statement.{statement}
+use Rattle.closing.proofs.ending.end_of.Tie as tie
+use Rattle.closing.proofs.ending.end_of.Reads as reads
+use Rattle.closing.proofs.ending.end_of.Lts as lts
+use Rattle.closing.proofs.ending.zero_field.Reads as zero-field-reads
 
 -- src/ending.rt:34:16
 mul-unit : tie.Need-mul-unit

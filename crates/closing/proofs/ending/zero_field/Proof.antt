@@ -4,11 +4,11 @@ use native.Mathlib.Omega.{arith}
 use lib.ListN.{length, drop, length-drop}
 use Rattle.bitstream.specs.Stream.{unpack}
 use Rattle.header.specs.Fields.{same}
-use Rattle.cube.proofs.Endings.{window-same}
-use Rattle.cube.proofs.ending.zero_field.Statement.{statement}
-use Rattle.cube.proofs.ending.zero_field.Tie as tie
-use Rattle.cube.proofs.ending.zero_field.Reads as reads
-use Rattle.cube.proofs.ending.zero_field.Lts as lts
+use Rattle.closing.proofs.Endings.{window-same}
+use Rattle.closing.proofs.ending.zero_field.Statement.{statement}
+use Rattle.closing.proofs.ending.zero_field.Tie as tie
+use Rattle.closing.proofs.ending.zero_field.Reads as reads
+use Rattle.closing.proofs.ending.zero_field.Lts as lts
 use Rattle.bitstream.proofs.read.window.Reads as window-reads
 
 -- src/ending.rt:24:9

@@ -15,9 +15,9 @@ use Rattle.bitstream.specs.Laws.{bits-zero, bits-inj, filling-whole}
 use Rattle.bitstream.specs.Reader.{Sees}
 use Rattle.header.specs.Fields.{same}
 use Rattle.header.specs.FieldLaws.{same-true, same-refl}
-use Rattle.cube.specs.declared.ending.Ending.the-variants.{Whole, TooShort, Behind}
-use Rattle.cube.specs.Ending.{endOf}
-use Rattle.cube.specs.FileLaws.{whole-bytes}
+use Rattle.closing.specs.declared.ending.Ending.the-variants.{Whole, TooShort, Behind}
+use Rattle.closing.specs.Ending.{endOf}
+use Rattle.bitstream.specs.Laws.{whole-bytes}
 
 -- the w bits of a number below 2^w
 bits-same : (w v : ℕ) → v < 2 ^ w → eqb v 0 ≡ same (bits w v) (zeros w)

@@ -1,0 +1,2 @@
+-- What stands behind a body, as a definition.
+pub mod Ending
