@@ -17,10 +17,10 @@ pub fn gain(v: i64, rho: i32) -> i64
 {
     if 0 <= rho {
         let shift = rho as u32;
-        integers::floor_shift(v + integers::power(shift), shift + 1)
+        (v + integers::power(shift)) >> (shift + 1)
     } else {
         let shift = (-rho) as u32;
-        integers::floor_shift(integers::power(shift) * v + 1, 1)
+        (integers::power(shift) * v + 1) >> 1
     }
 }
 

@@ -7,7 +7,7 @@ use lib.IntN.{pos, natAbs, _+ℤ_, _-ℤ_, _*ℤ_}
 use mir.Syntax.{w32, w64}
 use mir.Val.{SFits}
 use mir.Facts.{toZ-ofZ}
-use Rattle.integers.specs.Laws.{P, N, zs, ok, add, sub, abs-parts}
+use Rattle.integers.specs.Laws.{P, N, zs, ok, add, sub, abs-parts, shr-floor, floor-fits}
 use Rattle.predictor_steps.proofs.Gains.{gain-right, gain-left}
 use Rattle.predictor_steps.proofs.WeightFits.{sum-fits, product-small, turned-small}
 use Rattle.predictor_steps.proofs.weights.gain.Statement.{statement}
@@ -41,17 +41,20 @@ cast-shift c =
 power-requires : tie.Need-power-requires
 power-requires c κs = let f = c .before .fits .rho in simp toZ-ofZ (omega arith)
 
-add-floor-shift : tie.Need-add-floor-shift
-add-floor-shift c =
+add-result : tie.Need-add-result
+add-result c =
     let s = c .before .before in
     simp (toZ-ofZ, s .fits .v, ok w64 (c .power .result) (c .power .ok))
     (sum-fits (s .args .v) (c .power .result) (natAbs (s .args .rho)) (s .pre .0) (s .pre .1) (p-is c))
 
-add-floor-shift-2 : tie.Need-add-floor-shift-2
-add-floor-shift-2 c = let f = c .before .before .fits .rho in simp toZ-ofZ (omega arith)
+add-result-2 : tie.Need-add-result-2
+add-result-2 c = let f = c .before .before .fits .rho in simp toZ-ofZ (omega arith)
 
-floor-shift-requires : tie.Need-floor-shift-requires
-floor-shift-requires c κs = let f = c .before .before .fits .rho in simp toZ-ofZ (omega arith)
+cast-result : tie.Need-cast-result
+cast-result c = let f = c .before .before .fits .rho in simp toZ-ofZ (omega arith)
+
+shr-result : tie.Need-shr-result
+shr-result c = let f = c .before .before .fits .rho in simp toZ-ofZ (omega arith)
 
 sub-shift : tie.Need-sub-shift
 sub-shift c =
@@ -78,47 +81,46 @@ power-requires-2 c κs =
     let g : SFits w32 m = omega (zs, sub (pos 0) rho, abs-parts rho) in
     simp toZ-ofZ (omega (zs, sub (pos 0) rho, abs-parts rho, abs-parts m))
 
-mul-floor-shift : tie.Need-mul-floor-shift
-mul-floor-shift c =
+mul-result : tie.Need-mul-result
+mul-result c =
     let h = small c in
     simp (toZ-ofZ, c .before .before .fits .v, ok w64 (c .power2 .result) (c .power2 .ok)) (omega zs)
 
-add-floor-shift-3 : tie.Need-add-floor-shift-3
-add-floor-shift-3 c =
+add-result-3 : tie.Need-add-result-3
+add-result-3 c =
     let h = small c in
     let m = c .power2 .result *ℤ c .before .before .args .v in
     let f : SFits w64 m = omega zs in
     simp (toZ-ofZ, c .before .before .fits .v, ok w64 (c .power2 .result) (c .power2 .ok), f) (omega (zs, add m (pos 1)))
 
-floor-shift-requires-2 : tie.Need-floor-shift-requires-2
-floor-shift-requires-2 c κs = search needs
-
 returns : tie.Need-returns
 returns c =
-    let s = c .before .before .before in
+    let s = c .before .before in
+    let rho = s .args .rho in
     let fr = s .fits .rho in
     let fv = s .fits .v in
-    let fp = ok w64 (c .before .power .result) (c .before .power .ok) in
-    let fa = ok w64 (c .floor-shift .result) (c .floor-shift .ok) in
-    let e = p-is (c .before) in
-    let fs = sum-fits (s .args .v) (c .before .power .result) (natAbs (s .args .rho)) (s .pre .0) (s .pre .1) e in
-    let t = simp toZ-ofZ at (c .before .before .if1 .taken) in
-    toZ-ofZ fa ∙ (simp toZ-ofZ at (c .floor-shift .ensures)) ∙ rw e (gain-right (s .args .rho) (s .args .v) t)
+    let p = c .power .result in
+    let fp = ok w64 p (c .power .ok) in
+    let fs = sum-fits (s .args .v) p (natAbs rho) (s .pre .0) (s .pre .1) (p-is c) in
+    let ff = floor-fits (s .args .v +ℤ p) (2 ^ (natAbs rho + 1)) fs in
+    let t = simp toZ-ofZ at (c .before .if1 .taken) in
+    simp (toZ-ofZ, shr-floor) (rw (p-is c) (gain-right rho (s .args .v) t))
 
 returns-2 : tie.Need-returns-2
 returns-2 c =
-    let s = c .before .before .before in
+    let s = c .before .before in
+    let rho = s .args .rho in
     let fr = s .fits .rho in
     let fv = s .fits .v in
-    let fp = ok w64 (c .before .power2 .result) (c .before .power2 .ok) in
-    let fa = ok w64 (c .floor-shift2 .result) (c .floor-shift2 .ok) in
-    let e = q-is (c .before) in
-    let h = small (c .before) in
-    let m = c .before .power2 .result *ℤ s .args .v in
+    let p = c .power2 .result in
+    let fp = ok w64 p (c .power2 .ok) in
+    let h = small c in
+    let m = p *ℤ s .args .v in
     let fm : SFits w64 m = omega zs in
     let fm1 : SFits w64 (m +ℤ pos 1) = omega (zs, add m (pos 1)) in
-    let t = simp toZ-ofZ at (c .before .before .if1 .left) in
-    toZ-ofZ fa ∙ (simp toZ-ofZ at (c .floor-shift2 .ensures)) ∙ rw e (gain-left (s .args .rho) (s .args .v) t)
+    let ff = floor-fits (m +ℤ pos 1) 2 fm1 in
+    let t = simp toZ-ofZ at (c .before .if1 .left) in
+    simp (toZ-ofZ, shr-floor) (rw (q-is c) (gain-left rho (s .args .v) t))
 
 pub gain-spec : {M : Type 1} → statement M
 gain-spec =
@@ -126,14 +128,14 @@ gain-spec =
     (tie.spec
     cast-shift
     power-requires
-    add-floor-shift
-    add-floor-shift-2
-    floor-shift-requires
+    add-result
+    add-result-2
+    cast-result
+    shr-result
     sub-shift
     cast-shift-2
     power-requires-2
-    mul-floor-shift
-    add-floor-shift-3
-    floor-shift-requires-2
+    mul-result
+    add-result-3
     returns
     returns-2)
