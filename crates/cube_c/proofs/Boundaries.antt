@@ -23,9 +23,9 @@ use Rattle.cube.specs.declared.Opened.{Opened}
 use Rattle.cube.specs.File.{lengthAnswer, packed}
 use Rattle.cube.specs.Open.{Cube, opened}
 use Rattle.cube.specs.Areas.{clears, outAfter, openAnswer, imageAfter, tablesAfter, lentOf, Packs, Opens}
-use Rattle.cube_c.specs.Slots.{slotCount, holds, settingsFrom}
+use Rattle.settings_slots.specs.Slots.{slotCount, holds, settingsFrom, slotsChecked}
 use Rattle.cube_c.specs.Answer.{valueLimit, refusalWord, packedValue, packedWord, openedValue, openedWord, lookedValue, lookedWord}
-use Rattle.cube_c.specs.Boundary.{slotsChecked, boundaryLength, boundaryPacked, boundaryOpened, lookAnswer, boundaryLooked, slotsAfter, CPacks, CLengths, COpens, CLooks}
+use Rattle.cube_c.specs.Boundary.{boundaryLength, boundaryPacked, boundaryOpened, lookAnswer, boundaryLooked, slotsAfter, CPacks, CLengths, COpens, CLooks}
 use Rattle.cube_c.specs.BoundaryLaws.{slots-small, length-small, packed-small, opened-short, opened-long, looked-short, looked-long, Fit, opened-fits, looked-fits}
 
 -- ---- pack and length

@@ -1,4 +1,2 @@
 -- Pure lemmas behind the functions' proofs.
-pub mod Stores
-pub mod Fields
 pub mod Boundaries

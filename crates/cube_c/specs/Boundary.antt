@@ -1,17 +1,14 @@
 -- What the four calls of the boundary answer, and what each lent area holds afterwards.
 use mathlib.Core.Path.{_≡_}
-use mathlib.Core.Bool.{Bool, not}
 use mathlib.Core.List.{List, [], _∷_, _++_}
 use Prim.Native.Nat.{ℕ}
 use lib.IntN.{ℤ}
 use lib.ListN.{length, drop}
-use lib.Dec.{ltb}
 use Rattle.bitstream.specs.Stream.{unpack}
 use Rattle.settings.specs.declared.Settings.{Settings}
-use Rattle.settings.specs.declared.Refusal.the-variants.{IllegalSetting, WrongCount}
 use Rattle.settings.specs.declared.Checked.{Checked}
 use Rattle.settings.specs.declared.Checked.the-variants as checking
-use Rattle.settings.specs.Checks.{Test, _⇒_, firstHit}
+use Rattle.settings.specs.Checks.{firstHit}
 use Rattle.settings.specs.Reading.{Read, got, refused, unless}
 use Rattle.header.specs.Read.{Header, readHeader}
 use Rattle.cube.specs.declared.Packed.{Packed}
@@ -21,16 +18,9 @@ use Rattle.cube.specs.declared.Opened.the-variants as opening
 use Rattle.cube.specs.File.{lengthAnswer, packed}
 use Rattle.cube.specs.Open.{Cube, Lent, opened}
 use Rattle.cube.specs.Areas.{outAfter, openAnswer, imageAfter, tablesAfter, lentOf}
-use Rattle.cube_c.specs.Slots.{slotCount, holds, settingsFrom, slotsOf}
+use Rattle.settings_slots.specs.Slots.{slotCount, settingsFrom, slotsOf, tooShort, slotsChecked}
+use Rattle.settings_slots.specs.Storing.{Small}
 use Rattle.cube_c.specs.Answer.{packedWord, openedWord, lookedWord}
-
--- a settings list that is too short, before anything else
-abbrev pub tooShort : List ℤ → Test
-tooShort slots = ltb (length slots) slotCount ⇒ WrongCount
-
--- and, of settings that are given, a slot that the record cannot hold
-unfoldable pub slotsChecked : List ℤ → Checked
-slotsChecked slots = firstHit (tooShort slots ∷ not (holds slots) ⇒ IllegalSetting ∷ [])
 
 -- ---- pack and length
 
@@ -63,6 +53,11 @@ lookAnswer (refused w) = opening.Refused w
 -- what the look answers
 unfoldable pub boundaryLooked : List ℤ → List ℕ → Opened
 boundaryLooked slots bytes = lookAnswer (unless (firstHit (tooShort slots ∷ [])) (readHeader (unpack bytes)))
+
+-- an answer whose settings, where there are any, slots can hold
+unfoldable pub Storable : Opened → Type 0
+Storable (opening.Settings S) = Small S
+Storable (opening.Refused w) = Unit {0}
 
 -- the settings area that held l: 24 slots written, or untouched
 unfoldable pub slotsAfter : Opened → List ℤ → List ℤ

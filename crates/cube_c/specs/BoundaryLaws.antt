@@ -40,11 +40,10 @@ use Rattle.cube.specs.Areas.{openAnswer}
 use Rattle.cube.specs.SizeLaws.{file-small}
 use Rattle.cube.specs.Look.{looked}
 use Rattle.cube.specs.ValueLaws.{Refuses, Most, opened-within}
+use Rattle.settings_slots.specs.Slots.{slotCount, holds, settingsFrom, slotsChecked}
 use Rattle.cube_c.specs.Answer.{valueLimit, packedValue, openedValue, lookedValue, openedOf}
-use Rattle.cube_c.specs.Slots.{slotCount, holds, settingsFrom}
-use Rattle.cube_c.specs.Storing.{Storable}
-use Rattle.cube_c.specs.SlotLaws.{small}
-use Rattle.cube_c.specs.Boundary.{tooShort, slotsChecked, answeredUnless, boundaryLength, boundaryPacked, boundaryOpened, lookAnswer, boundaryLooked, CPacks, CLengths, COpens, CLooks}
+use Rattle.cube_c.specs.UsedLaws.{small}
+use Rattle.cube_c.specs.Boundary.{answeredUnless, boundaryLength, boundaryPacked, boundaryOpened, lookAnswer, boundaryLooked, Storable, CPacks, CLengths, COpens, CLooks}
 
 -- ---- one answer, and one content of each area
 

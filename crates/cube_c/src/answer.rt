@@ -1,4 +1,4 @@
-// Answers in one word: number · 2^56 + value, where number 0 is success.
+// Answers in one word: number · 2^56 + value, where number 0 is success. Settings that are answered go to the slots.
 use cube::Opened;
 use cube::Packed;
 use cube::look::Looked;
@@ -6,10 +6,14 @@ use settings::Refusal;
 use settings::legal::sample_count;
 use settings::refusals::number;
 use settings::refusals::value;
+use settings_slots::slots::put_settings;
 ghost use mathlib.Core.Path.{_≡_};
 ghost use Prim.Native.Nat.{_≤_, _<_, _^_};
+ghost use lib.ListN.{length};
 ghost use Rattle.settings.specs.Refusals.{value};
+ghost use Rattle.settings_slots.specs.Slots.{slotCount};
 ghost use Rattle.cube_c.specs.Answer.{valueLimit, wordOf, refusalWord, packedValue, packedWord, openedValue, openedWord, lookedValue, lookedWord, openedOf};
+ghost use Rattle.cube_c.specs.Boundary.{Storable, slotsAfter};
 
 // A number from 0 to 12 with a value below it in the word.
 pub fn word(number: u64, value: u64) -> u64
@@ -67,5 +71,17 @@ pub fn looked_word(r: Opened) -> u64
     match r {
         Opened::Settings(_) => 0,
         Opened::Refused(w) => refusal_word(w),
+    }
+}
+
+// The settings of an answer; after a refusal the slots are left as they are.
+pub fn put_answer(r: Opened, l: &mut [i32])
+    requires { ⌜ slotCount ≤ length (now l) ⌝ }
+    requires { ⌜ Storable r ⌝ }
+    ensures { λ u. ⌜ now (l .exit) ≡ slotsAfter r (now (l .entry)) ⌝ }
+{
+    match r {
+        Opened::Settings(s) => put_settings(s, l),
+        Opened::Refused(_) => {}
     }
 }

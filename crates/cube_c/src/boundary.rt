@@ -3,17 +3,17 @@ use super::answer::looked_answer;
 use super::answer::looked_word;
 use super::answer::opened_word;
 use super::answer::packed_word;
+use super::answer::put_answer;
 use super::answer::refusal_word;
-use super::slots::SLOTS;
-use super::slots::put_answer;
-use super::slots::settings_from;
-use super::slots::slots_checked;
 use cube::look::look;
 use cube::open::open;
 use cube::pack::length;
 use cube::pack::pack;
 use settings::Checked;
 use settings::Refusal;
+use settings_slots::slots::SLOTS;
+use settings_slots::slots::settings_from;
+use settings_slots::slots::slots_checked;
 ghost use Rattle.cube_c.specs.Boundary.{CPacks, CLengths, COpens, CLooks};
 
 // A cube into a file. The answer is the file's length, or a refusal.

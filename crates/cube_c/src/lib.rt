@@ -1,4 +1,3 @@
 // The C boundary: settings in 24 slots, answers in one word.
 mod answer;
 pub mod boundary;
-mod slots;

@@ -1,0 +1,3 @@
+-- Pure lemmas behind the functions' proofs.
+pub mod Stores
+pub mod Fields

@@ -1,0 +1,2 @@
+// The settings as the 24 slots of the C boundary: tested, read and stored.
+pub mod slots;
