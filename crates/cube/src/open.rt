@@ -8,7 +8,7 @@ use closing::ending::Ending;
 use closing::ending::end_of;
 use header_reader::read::HeaderRead;
 use header_reader::read::read_header;
-use header_reader::store::store_tables;
+use header_values::store::store_tables;
 use settings::Refusal;
 use settings::Settings;
 use settings::check::areas_short;

@@ -3,4 +3,3 @@ pub mod PlainLaws
 pub mod Answering
 pub mod TableReading
 pub mod HeaderReading
-pub mod StoreLaws

@@ -8,10 +8,10 @@ use native.Mathlib.Omega.{arith}
 use borrow.Author.Tests.{ltb-false, eq-eqb, eqb-true}
 use lib.Dec.{leb, ltb, eqb}
 use lib.ListN.{length, take, drop, length-drop, length-take}
-use lib.Seq.{take-add, take-take, drop-drop, length-take-le, drop-at}
+use lib.Seq.{take-add, drop-drop, length-take-le, drop-at}
 use lib.Pow.{pow-pos}
 use Rattle.bitstream.specs.Stream.{bits, number, zeros, filling, filled}
-use Rattle.bitstream.specs.Laws.{number-bits, bits-number, bits-zero, take-drop}
+use Rattle.bitstream.specs.Laws.{number-bits, bits-number, bits-zero}
 use Rattle.settings.specs.declared.Image.{Image}
 use Rattle.settings.specs.declared.Predictor.{Predictor}
 use Rattle.settings.specs.declared.Coder.{Coder}
@@ -24,6 +24,7 @@ use Rattle.header.specs.Tables.{numberAt}
 use Rattle.header.specs.Read.{present, readTable, readWeights, readAccumulators}
 use Rattle.header.specs.Sizes.{padded, weightBits}
 use Rattle.header.proofs.SizeLaws.{cond-true}
+use Rattle.header_values.proofs.Positions.{number-in-file}
 use Rattle.header_reader.proofs.PlainLaws.{both}
 use Rattle.header_reader.proofs.Answering.{PartSeen, missing, absent}
 
@@ -73,15 +74,6 @@ module _ (F : List Bool) (at n : ℕ) (test : List Bool → Bool) (from : at ≤
       record { there = there ∙ e; is = rw (fill-same (drop at F) n long, t, k, f, drop-drop n at F) }
 
 -- ---- its entries
-
--- entry m of a table of w-bit numbers that stands at a position of the file
-pub number-in-file : (F : List Bool) (at w n m : ℕ) → w * m + w ≤ n → n ≤ length (drop at F) → numberAt w (take n (drop at F)) m ≡ number (take w (drop (at + w * m) F))
-unfolding numberAt
-number-in-file F at w n m h k =
-    let l : List Bool = drop at F in
-    let a : w * m ≤ length (take n l) = rw (length-take-le n l k) (omega arith) in
-    ap number
-    (take-drop (w * m) w (take n l) a ∙ ap (drop (w * m)) (take-take (w * m + w) n l h) ∙ sym (take-drop (w * m) w l (omega arith)) ∙ ap (take w) (drop-drop (w * m) at F))
 
 every-ext : (n : ℕ) (f g : ℕ → Bool) → ((i : ℕ) → i < n → f i ≡ g i) → every n f ≡ every n g
 unfolding every

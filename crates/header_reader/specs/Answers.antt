@@ -2,7 +2,7 @@
 use mathlib.Core.Path.{_≡_}
 use mathlib.Core.Bool.{Bool}
 use mathlib.Core.List.{List}
-use Prim.Native.Nat.{ℕ, _+_, _≤_}
+use Prim.Native.Nat.{ℕ, _≤_}
 use lib.IntN.{ℤ}
 use lib.ListN.{length, drop}
 use Rattle.settings.specs.declared.Image.{Image}
@@ -21,8 +21,7 @@ use Rattle.header_reader.specs.declared.read.CoderRead.{CoderRead}
 use Rattle.header_reader.specs.declared.read.CoderRead.the-variants as coder
 use Rattle.header_reader.specs.declared.read.HeaderRead.{HeaderRead}
 use Rattle.header_reader.specs.declared.read.HeaderRead.the-variants as header
-use Rattle.header.specs.Read.{readImage, readPredictor, readWeights, readCoder, Header, readHeader}
-use Rattle.header.specs.Sizes.{weightsSize}
+use Rattle.header.specs.Read.{Header, readHeader}
 
 -- what was read, or why not, by two constructors
 abbrev pub answered : {A B : Type 0} → (A → B) → (Refusal → B) → Read A → B
@@ -44,31 +43,6 @@ coderRead = answered coder.Coder coder.Refused
 -- a table is there and passes, or it does not
 abbrev pub tableRead : Read (List Bool) → Checked
 tableRead = answered (λ table. checked.Passed) checked.Refused
-
--- ---- how far a header is read off the file F
-
--- behind the image's part
-pub record ImageDone (F : List Bool) (I : Image) : Type 0 where
-  pub image : readImage F ≡ got I (drop 96 F)
-
--- behind the predictor's part
-pub record PredictorDone (F : List Bool) (I : Image) (P : Predictor) : Type 0 where
-  pub before : ImageDone F I
-  pub predictor : readPredictor I (drop 96 F) ≡ got P (drop 136 F)
-
--- behind the weight table, at the position `at`
-pub record WeightsDone (F : List Bool) (I : Image) (P : Predictor) (at : ℕ) : Type 0 where
-  pub before : PredictorDone F I P
-  pub place : at ≡ 136 + weightsSize I P
-  pub table : List Bool
-  pub weights : readWeights I P (drop 136 F) ≡ got table (drop at F)
-
--- behind the coder's part, at the position `at`
-pub record CoderDone (F : List Bool) (S : Settings) (at : ℕ) : Type 0 where
-  pub from : ℕ
-  pub before : WeightsDone F (S .image) (S .predictor) from
-  pub place : at ≡ from + 16
-  pub coder : readCoder (S .image) (drop from F) ≡ got (S .coder) (drop at F)
 
 -- the file F begins with a header of the settings S, up to the position `at`
 pub record Begins (F : List Bool) (S : Settings) (at : ℕ) : Type 0 where

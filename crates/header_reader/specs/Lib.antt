@@ -1,3 +1,2 @@
--- The header read off a file: what each function answers, and what it stores.
+-- The header read off a file: what each function answers.
 pub mod Answers
-pub mod Storing

@@ -16,7 +16,7 @@ use Rattle.body_reader.proofs.walk.read_body.Reads as read-body-reads
 use Rattle.closing.proofs.clear.clear_slots.Reads as clear-slots-reads
 use Rattle.cube.proofs.open.answer_of.Reads as answer-of-reads
 use Rattle.cube.proofs.open.is_refused.Reads as is-refused-reads
-use Rattle.header_reader.proofs.store.store_tables.Reads as store-tables-reads
+use Rattle.header_values.proofs.store.store_tables.Reads as store-tables-reads
 use Rattle.settings.proofs.legal.sample_count.Reads as sample-count-reads
 
 -- src/open.rt:73:17

@@ -3,7 +3,8 @@ use mathlib.Core.Path.{_≡_, sym, _∙_}
 use native.Mathlib.Omega.{arith}
 use borrow.Author.Needs.{needs}
 use Rattle.bitstream.specs.Stream.{unpack}
-use Rattle.header_reader.proofs.HeaderReading.{coder-facts, table-refused, begins, refused-at-accumulators}
+use Rattle.header_values.proofs.Positions.{coder-facts}
+use Rattle.header_reader.proofs.HeaderReading.{table-refused, begins, refused-at-accumulators}
 use Rattle.header_reader.proofs.read.behind_coder.Statement.{statement}
 use Rattle.header_reader.proofs.read.behind_coder.Tie as tie
 

@@ -3,7 +3,8 @@ use mathlib.Core.Path.{_≡_, sym, _∙_}
 use native.Mathlib.Omega.{arith}
 use borrow.Author.Needs.{needs}
 use Rattle.bitstream.specs.Stream.{unpack}
-use Rattle.header_reader.proofs.HeaderReading.{predictor-facts, table-refused, weights-done, refused-at-weights}
+use Rattle.header_values.proofs.Positions.{predictor-facts}
+use Rattle.header_reader.proofs.HeaderReading.{table-refused, weights-done, refused-at-weights}
 use Rattle.header_reader.proofs.read.behind_predictor.Statement.{statement}
 use Rattle.header_reader.proofs.read.behind_predictor.Tie as tie
 

@@ -3,7 +3,8 @@ use mathlib.Core.Path.{_≡_, sym, _∙_}
 use native.Mathlib.Omega.{arith}
 use borrow.Author.Needs.{needs}
 use Rattle.bitstream.specs.Stream.{unpack}
-use Rattle.header_reader.proofs.HeaderReading.{weights-facts, coder-refused, coder-done, refused-at-coder}
+use Rattle.header_values.proofs.Positions.{weights-facts}
+use Rattle.header_reader.proofs.HeaderReading.{coder-refused, coder-done, refused-at-coder}
 use Rattle.header_reader.proofs.read.behind_weights.Statement.{statement}
 use Rattle.header_reader.proofs.read.behind_weights.Tie as tie
 

@@ -12,7 +12,7 @@ use Rattle.settings.specs.Reading.{got}
 use Rattle.settings.specs.Tables.{stride, accumulatorSlot}
 use Rattle.header.specs.Tables.{signedOf, used}
 use Rattle.header.specs.Read.{readAccumulators, Header, readHeader}
-use Rattle.header_reader.specs.Answers.{CoderDone}
+use Rattle.header_values.specs.Progress.{CoderDone}
 
 -- the file F begins with a header of the settings S, and the area has a slot for each value of its tables
 pub record Storing (F : List Bool) (S : Settings) (tables : List ℤ) : Type 0 where

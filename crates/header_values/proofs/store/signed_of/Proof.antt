@@ -5,12 +5,12 @@ use native.Mathlib.Omega.{arith}
 use mir.Facts.{toZ-pos}
 use mir.Syntax.{w32}
 use Rattle.header.proofs.Signs.{small-power}
-use Rattle.header_reader.proofs.StoreLaws.{Lowering, signed-low, lowering}
+use Rattle.header_values.proofs.StoreLaws.{Lowering, signed-low, lowering}
 use borrow.Author.Needs.{needs}
-use Rattle.header_reader.proofs.store.signed_of.Statement.{statement}
-use Rattle.header_reader.proofs.store.signed_of.Tie as tie
-use Rattle.header_reader.proofs.store.signed_of.Reads as reads
-use Rattle.header_reader.proofs.store.signed_of.Lts as lts
+use Rattle.header_values.proofs.store.signed_of.Statement.{statement}
+use Rattle.header_values.proofs.store.signed_of.Tie as tie
+use Rattle.header_values.proofs.store.signed_of.Reads as reads
+use Rattle.header_values.proofs.store.signed_of.Lts as lts
 use Rattle.settings.proofs.range.power.Reads as power-reads
 
 small : (c : tie.Start) → c .args .v < 2 ^ 31

@@ -7,7 +7,7 @@ ghost use lib.ListN.{length, take, drop};
 ghost use Rattle.bitstream.specs.Stream.{unpack, number};
 ghost use Rattle.settings.specs.Tables.{stride, componentCount};
 ghost use Rattle.header.specs.Tables.{signedOf, componentsBefore};
-ghost use Rattle.header_reader.specs.Storing.{Storing, Stored, AccumulatorsDone, BandStored, slotIn};
+ghost use Rattle.header_values.specs.Storing.{Storing, Stored, AccumulatorsDone, BandStored, slotIn};
 use header::fields::number_at;
 use header::sizes::weights_size;
 use settings::Settings;

@@ -6,12 +6,12 @@ use mir.Facts.{toZ-ofZ}
 use mir.Syntax.{w32}
 use Rattle.integers.specs.Laws.{ok}
 use Rattle.bitstream.specs.Stream.{unpack}
-use Rattle.header_reader.proofs.StoreLaws.{Laying, laying-begin, laying-more, laying-all, bands-few}
-use Rattle.header_reader.proofs.store.store_band.Statement.{statement}
-use Rattle.header_reader.proofs.store.store_band.Tie as tie
-use Rattle.header_reader.proofs.store.store_band.Reads as reads
-use Rattle.header_reader.proofs.store.store_band.Lts as lts
-use Rattle.header_reader.proofs.store.slot_at.Reads as slot-at-reads
+use Rattle.header_values.proofs.StoreLaws.{Laying, laying-begin, laying-more, laying-all, bands-few}
+use Rattle.header_values.proofs.store.store_band.Statement.{statement}
+use Rattle.header_values.proofs.store.store_band.Tie as tie
+use Rattle.header_values.proofs.store.store_band.Reads as reads
+use Rattle.header_values.proofs.store.store_band.Lts as lts
+use Rattle.header_values.proofs.store.slot_at.Reads as slot-at-reads
 
 abbrev Inv-loop : tie.InvT-loop
 Inv-loop file s tables₀ at first z base i₀ tables i = Laying (unpack file) z tables₀ i tables

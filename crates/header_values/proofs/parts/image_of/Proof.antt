@@ -5,8 +5,8 @@ use Prim.Native.Nat.{ℕ}
 use lib.ListN.{getD}
 use Rattle.header.specs.Parts.{isOne, imageOf}
 use borrow.Author.Needs.{needs}
-use Rattle.header_reader.proofs.parts.image_of.Statement.{statement}
-use Rattle.header_reader.proofs.parts.image_of.Tie as tie
+use Rattle.header_values.proofs.parts.image_of.Statement.{statement}
+use Rattle.header_values.proofs.parts.image_of.Tie as tie
 
 array-read-sequential : tie.Need-array-read-sequential
 array-read-sequential c = search needs

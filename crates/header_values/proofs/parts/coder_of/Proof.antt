@@ -3,8 +3,8 @@ use Prim.Native.Nat.{_+_}
 use lib.ListN.{getD}
 use Rattle.header.specs.Parts.{isOne, coderOf}
 use borrow.Author.Needs.{needs}
-use Rattle.header_reader.proofs.parts.coder_of.Statement.{statement}
-use Rattle.header_reader.proofs.parts.coder_of.Tie as tie
+use Rattle.header_values.proofs.parts.coder_of.Statement.{statement}
+use Rattle.header_values.proofs.parts.coder_of.Tie as tie
 
 array-read-tabled : tie.Need-array-read-tabled
 array-read-tabled c = search needs

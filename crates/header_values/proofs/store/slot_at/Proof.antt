@@ -5,14 +5,14 @@ use borrow.Author.Tests.{not-true, not-false}
 use mir.Facts.{toZ-ofZ}
 use mir.Syntax.{w32}
 use Rattle.integers.specs.Laws.{ok}
-use Rattle.header_reader.proofs.StoreLaws.{slot-single, slot-default, slot-beyond, slot-accumulator, slot-weight}
+use Rattle.header_values.proofs.StoreLaws.{slot-single, slot-default, slot-beyond, slot-accumulator, slot-weight}
 use borrow.Author.Needs.{needs}
-use Rattle.header_reader.proofs.store.slot_at.Statement.{statement}
-use Rattle.header_reader.proofs.store.slot_at.Tie as tie
-use Rattle.header_reader.proofs.store.slot_at.Reads as reads
-use Rattle.header_reader.proofs.store.slot_at.Lts as lts
-use Rattle.header_reader.proofs.store.accumulator_at.Reads as accumulator-at-reads
-use Rattle.header_reader.proofs.store.weight_at.Reads as weight-at-reads
+use Rattle.header_values.proofs.store.slot_at.Statement.{statement}
+use Rattle.header_values.proofs.store.slot_at.Tie as tie
+use Rattle.header_values.proofs.store.slot_at.Reads as reads
+use Rattle.header_values.proofs.store.slot_at.Lts as lts
+use Rattle.header_values.proofs.store.accumulator_at.Reads as accumulator-at-reads
+use Rattle.header_values.proofs.store.weight_at.Reads as weight-at-reads
 use Rattle.settings.proofs.tables.component_count.Reads as component-count-reads
 
 accumulator-at-requires : tie.Need-accumulator-at-requires

@@ -3,16 +3,16 @@ use Prim.Native.Nat.{ℕ, _+_, _-_, _*_, _≤_}
 use native.Mathlib.Omega.{arith}
 use Rattle.bitstream.specs.Stream.{unpack}
 use Rattle.header.specs.Tables.{componentsBefore}
-use Rattle.header_reader.specs.Storing.{AccumulatorsDone}
+use Rattle.header_values.specs.Storing.{AccumulatorsDone}
 use Rattle.settings.specs.LegalLaws.{legal-predictor}
 use Rattle.header.proofs.SizeLaws.{components-most}
-use Rattle.header_reader.proofs.StoreLaws.{Bands, bands-begin, bands-more, bands-all, bands-few, components-few, storing-done, storing-facts}
-use Rattle.header_reader.proofs.store.store_tables.Statement.{statement}
-use Rattle.header_reader.proofs.store.store_tables.Tie as tie
-use Rattle.header_reader.proofs.store.store_tables.Reads as reads
-use Rattle.header_reader.proofs.store.store_tables.Lts as lts
+use Rattle.header_values.proofs.StoreLaws.{Bands, bands-begin, bands-more, bands-all, bands-few, components-few, storing-done, storing-facts}
+use Rattle.header_values.proofs.store.store_tables.Statement.{statement}
+use Rattle.header_values.proofs.store.store_tables.Tie as tie
+use Rattle.header_values.proofs.store.store_tables.Reads as reads
+use Rattle.header_values.proofs.store.store_tables.Lts as lts
 use Rattle.header.proofs.sizes.weights_size.Reads as weights-size-reads
-use Rattle.header_reader.proofs.store.store_band.Reads as store-band-reads
+use Rattle.header_values.proofs.store.store_band.Reads as store-band-reads
 use Rattle.settings.proofs.tables.component_count.Reads as component-count-reads
 
 abbrev Inv-loop : tie.InvT-loop

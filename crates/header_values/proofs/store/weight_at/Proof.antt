@@ -9,14 +9,14 @@ use Rattle.integers.specs.Laws.{ok}
 use Rattle.bitstream.specs.Stream.{unpack}
 use Rattle.header.specs.FieldLaws.{number-take-lt}
 use Rattle.header.specs.Tables.{signedOf}
-use Rattle.header_reader.proofs.StoreLaws.{WeightAt, weight-from}
+use Rattle.header_values.proofs.StoreLaws.{WeightAt, weight-from}
 use borrow.Author.Needs.{needs}
-use Rattle.header_reader.proofs.store.weight_at.Statement.{statement}
-use Rattle.header_reader.proofs.store.weight_at.Tie as tie
-use Rattle.header_reader.proofs.store.weight_at.Reads as reads
-use Rattle.header_reader.proofs.store.weight_at.Lts as lts
+use Rattle.header_values.proofs.store.weight_at.Statement.{statement}
+use Rattle.header_values.proofs.store.weight_at.Tie as tie
+use Rattle.header_values.proofs.store.weight_at.Reads as reads
+use Rattle.header_values.proofs.store.weight_at.Lts as lts
 use Rattle.header.proofs.fields.number_at.Reads as number-at-reads
-use Rattle.header_reader.proofs.store.signed_of.Reads as signed-of-reads
+use Rattle.header_values.proofs.store.signed_of.Reads as signed-of-reads
 
 there : (c : tie.Start) → WeightAt (unpack (c .args .file .now)) (c .args .s) (c .args .at) (c .pre .0) (c .args .i) (c .args .first)
 there c = weight-from _ (c .args .s) (c .args .at) (c .pre .0) (c .args .z) (c .args .i) (c .args .first) (c .pre .1) (c .pre .2) (c .pre .3) (c .pre .4)

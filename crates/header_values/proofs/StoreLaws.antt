@@ -28,11 +28,9 @@ use Rattle.header.specs.Read.{readImage, readPredictor, readWeights, readCoder,
 use Rattle.header.specs.ReadLaws.{read-weights, read-accumulators}
 use Rattle.header.specs.HeaderLaws.{on-got}
 use Rattle.header.specs.Sizes.{weightsSize, weightBits}
-use Rattle.header_reader.specs.Answers.{imageRead, predictorRead, coderRead, tableRead}
-use Rattle.header_reader.specs.Storing.{Storing, Stored, AccumulatorsDone, BandStored, slotIn, laid}
-use Rattle.header_reader.proofs.HeaderReading.{PredictorFacts, image-done, predictor-done, weights-done, coder-done, header-got, coder-facts}
+use Rattle.header_values.specs.Storing.{Storing, Stored, AccumulatorsDone, BandStored, slotIn, laid}
+use Rattle.header_values.proofs.Positions.{PredictorFacts, image-got, predictor-got, weights-got, coder-got, header-got, coder-facts, number-in-file}
 use Rattle.header.proofs.SizeLaws.{no-components, more-components, components-most, precision-most, bits-most}
-use Rattle.header_reader.proofs.TableReading.{number-in-file}
 use Rattle.header.proofs.Signs.{small-power}
 
 -- ---- a header that was read: each of its parts
@@ -47,20 +45,20 @@ pub parts-done : (F l : List Bool) (h : Header) → readHeader F ≡ got h l →
 unfolding readHeader
 parts-done F l h e =
     on-got (readImage F) _ h l e (λ I l₁ i e₁.
-    let di = image-done F I (sym (ap imageRead i)) in
+    let di = image-got F l₁ I i in
     let q₁ : l₁ ≡ drop 96 F = same-behind i (di .image) in
     on-got (readPredictor I l₁) _ h l e₁ (λ P l₂ p e₂.
     let p′ : readPredictor I (drop 96 F) ≡ got P l₂ = subst (λ (x : List Bool). readPredictor I x ≡ got P l₂) q₁ p in
-    let dp = predictor-done F I P di (sym (ap predictorRead p′)) in
+    let dp = predictor-got F I P l₂ di p′ in
     let q₂ : l₂ ≡ drop 136 F = same-behind p′ (dp .predictor) in
     on-got (readWeights I P l₂) _ h l e₂ (λ weights l₃ w e₃.
     let w′ : readWeights I P (drop 136 F) ≡ got weights l₃ = subst (λ (x : List Bool). readWeights I P x ≡ got weights l₃) q₂ w in
-    let dw = weights-done F I P dp (sym (ap tableRead w′)) in
+    let dw = weights-got F I P weights l₃ dp w′ in
     let q₃ : l₃ ≡ drop (136 + weightsSize I P) F = same-behind w′ (dw .weights) in
     on-got (readCoder I l₃) _ h l e₃ (λ C l₄ c e₄.
     let S : Settings = record { image = I; predictor = P; coder = C } in
     let c′ : readCoder I (drop (136 + weightsSize I P) F) ≡ got C l₄ = subst (λ (x : List Bool). readCoder I x ≡ got C l₄) q₃ c in
-    let dc = coder-done F S (136 + weightsSize I P) dw (sym (ap coderRead c′)) in
+    let dc = coder-got F S (136 + weightsSize I P) l₄ dw c′ in
     let q₄ : l₄ ≡ drop (136 + weightsSize I P + 16) F = same-behind c′ (subst (λ (n : ℕ). readCoder I (drop n F) ≡ got C (drop (136 + weightsSize I P + 16) F)) (dc .before .place) (dc .coder)) in
     on-got (readAccumulators I C l₄) _ h l e₄ (λ accumulators l₅ a e₅.
     let a′ : readAccumulators I C (drop (136 + weightsSize I P + 16) F) ≡ got accumulators l₅ = subst (λ (x : List Bool). readAccumulators I C x ≡ got accumulators l₅) q₄ a in

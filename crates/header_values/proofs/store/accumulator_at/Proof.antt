@@ -8,12 +8,12 @@ use mir.Facts.{toZ-pos}
 use mir.Syntax.{w32}
 use Rattle.bitstream.specs.Stream.{unpack}
 use Rattle.header.specs.FieldLaws.{number-take-lt}
-use Rattle.header_reader.proofs.StoreLaws.{EntryIn, entry-in}
+use Rattle.header_values.proofs.StoreLaws.{EntryIn, entry-in}
 use borrow.Author.Needs.{needs}
-use Rattle.header_reader.proofs.store.accumulator_at.Statement.{statement}
-use Rattle.header_reader.proofs.store.accumulator_at.Tie as tie
-use Rattle.header_reader.proofs.store.accumulator_at.Reads as reads
-use Rattle.header_reader.proofs.store.accumulator_at.Lts as lts
+use Rattle.header_values.proofs.store.accumulator_at.Statement.{statement}
+use Rattle.header_values.proofs.store.accumulator_at.Tie as tie
+use Rattle.header_values.proofs.store.accumulator_at.Reads as reads
+use Rattle.header_values.proofs.store.accumulator_at.Lts as lts
 use Rattle.header.proofs.fields.number_at.Reads as number-at-reads
 
 there : (c : tie.Start) → EntryIn (unpack (c .args .file .now)) (c .args .s) (c .args .at) (c .pre .0) (c .args .z)

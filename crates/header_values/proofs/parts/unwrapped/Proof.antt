@@ -1,7 +1,7 @@
 -- The test of the code is that of the definition.
 use borrow.Author.Tests.{eq-eqb, ne-eqb}
-use Rattle.header_reader.proofs.parts.unwrapped.Statement.{statement}
-use Rattle.header_reader.proofs.parts.unwrapped.Tie as tie
+use Rattle.header_values.proofs.parts.unwrapped.Statement.{statement}
+use Rattle.header_values.proofs.parts.unwrapped.Tie as tie
 
 returns : tie.Need-returns
 returns c = rw (eq-eqb _ _ (c .if1 .taken))

@@ -5,8 +5,8 @@ use lib.ListN.{getD}
 use Rattle.header.specs.Parts.{isOne, predictorOf}
 use Rattle.header.proofs.Signs.{lowered}
 use borrow.Author.Needs.{needs}
-use Rattle.header_reader.proofs.parts.predictor_of.Statement.{statement}
-use Rattle.header_reader.proofs.parts.predictor_of.Tie as tie
+use Rattle.header_values.proofs.parts.predictor_of.Statement.{statement}
+use Rattle.header_values.proofs.parts.predictor_of.Tie as tie
 
 array-read-custom : tie.Need-array-read-custom
 array-read-custom c = search needs

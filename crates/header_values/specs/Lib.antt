@@ -1,0 +1,3 @@
+-- How far a header is read, and what is stored of its tables.
+pub mod Progress
+pub mod Storing

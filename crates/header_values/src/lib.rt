@@ -1,0 +1,3 @@
+// What the header's numbers mean: the settings of its parts, and the slots of the table area.
+pub mod parts;
+pub mod store;
