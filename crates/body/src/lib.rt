@@ -1,4 +1,3 @@
-// The body: the codes of all values in their order (5.4), written value by value with scratch for each band's state.
+// The body: the codes of all values in their order (5.4), and what both walks over them look up and keep for each band.
+pub mod band;
 pub mod plan;
-pub mod value;
-pub mod write;

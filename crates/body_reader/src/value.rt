@@ -2,11 +2,11 @@
 use super::Step;
 use bitstream::read::Got;
 use bitstream::read::get;
+use body::band::adapt;
+use body::band::begin_band;
+use body::band::get_statistics;
+use body::band::put_statistics;
 use body::plan::Plan;
-use body::value::adapt;
-use body::value::begin_band;
-use body::value::get_statistics;
-use body::value::put_statistics;
 use coder::counts::next_statistics;
 use coder::value::get_value;
 use predictor_steps::mapping::unmap_residual;

@@ -4,7 +4,7 @@ use bitstream::write::fill;
 use bitstream::write::finish;
 use bitstream::write::start;
 use body::plan::plan_of;
-use body::write::write_body;
+use body_writer::walk::write_body;
 use closing::clear::clear_bytes;
 use header::write::write_header;
 use settings::Checked;

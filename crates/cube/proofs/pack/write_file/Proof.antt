@@ -16,7 +16,7 @@ use Rattle.bitstream.proofs.write.fill.Reads as fill-reads
 use Rattle.bitstream.proofs.write.finish.Reads as finish-reads
 use Rattle.bitstream.proofs.write.start.Reads as start-reads
 use Rattle.body.proofs.plan.plan_of.Reads as plan-of-reads
-use Rattle.body.proofs.write.write_body.Reads as write-body-reads
+use Rattle.body_writer.proofs.walk.write_body.Reads as write-body-reads
 use Rattle.header.proofs.write.write_header.Reads as write-header-reads
 
 -- src/pack.rt:44:9
