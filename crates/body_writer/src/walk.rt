@@ -2,7 +2,7 @@
 use super::value::value_step;
 use bitstream::write::Tail;
 use body::plan::Plan;
-use predictor_steps::sums::least;
+use local_sums::sums::least;
 use settings::Settings;
 use settings::tables::SCRATCH_STRIDE;
 ghost use mathlib.Core.Path.{_≡_};

@@ -37,6 +37,10 @@ pub eighth-next : (n : ℕ) (v : ℤ) (i w : ℕ) → i + 1 < n → getD (eighth
     → getD (eighths n v) (i + 1) (pos 0) ≡ pos (w / 8)
 eighth-next n v i w h e = rw add-one (eighth-suc n v i w (omega arith) e)
 
+pub zero-eighths : (l : List ℤ) (n : ℕ) → n ≡ 3 → l ≡ eighths n (pos 0) → l ≡ pos 0 ∷ pos 0 ∷ pos 0 ∷ []
+unfolding eighths
+zero-eighths l n h e = e ∙ ap (λ (m : ℕ). eighths m (pos 0)) h
+
 module _ {S : Settings} {tables ws : List ℤ} {z : ℕ} (b : Beginning S tables ws z) where
   abbrev Ω : ℕ
   Ω = S .predictor .resolution

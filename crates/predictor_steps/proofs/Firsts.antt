@@ -1,9 +1,9 @@
 -- The first prediction of a band, with a band before it that predicts, and without.
-use borrow.Author.Tests.{lt-ltb, ltb-true}
-use mathlib.Core.Path.{_≡_, refl, sym, _∙_, ap}
+use borrow.Author.Tests.{lt-ltb, le-ltb}
+use mathlib.Core.Path.{_≡_, sym, ap}
 use mathlib.Core.Bool.{Bool, true, false, cond, _&&_}
 use mathlib.Core.List.{List}
-use Prim.Native.Nat.{ℕ, _+_, _-_, _*_, _<_, _≤_, min}
+use Prim.Native.Nat.{ℕ, _+_, _-_, _*_, _<_, _≤_}
 use native.Mathlib.Omega.{arith}
 use native.Mathlib.Nat.{mul-pos}
 use lib.Dec.{ltb}
@@ -17,9 +17,8 @@ use Rattle.predictor.specs.Asks.{First}
 use Rattle.predictor.specs.Inputs.{area, settings, inside}
 use Rattle.settings.specs.Range as range
 
-module _ {S : Settings} {samples : List ℤ} {z : ℕ} {middle : ℤ} (f : First S samples z middle) (n : ℕ)
-    (e : n ≡ min z (S .predictor .bands)) where
-  pub before-in : 0 < n → (z - 1) * area S < length samples
+module _ {S : Settings} {samples : List ℤ} {z : ℕ} {middle : ℤ} (f : First S samples z middle) where
+  pub before-in : 0 < z → (z - 1) * area S < length samples
   before-in h =
       let l = settings (f .given) .image in
       let a : 0 < area S = mul-pos (l .nx-least) (l .ny-least) in
@@ -27,20 +26,24 @@ module _ {S : Settings} {samples : List ℤ} {z : ℕ} {middle : ℤ} (f : First
       let q = inside (f .given) z-in a in
       omega arith
 
-  pub first-behind : 0 < n → firstPrediction S (imageOf (S .image) samples) z ≡ two (getD samples ((z - 1) * area S) (pos 0))
+  pub first-behind : 0 < z → ltb 0 (S .predictor .bands) ≡ true
+      → firstPrediction S (imageOf (S .image) samples) z ≡ two (getD samples ((z - 1) * area S) (pos 0))
   unfolding firstPrediction imageOf
-  first-behind p =
-      let b : 0 < S .predictor .bands = omega arith in
-      let q : 0 < z = omega arith in
-      let i : (z - 1) * area S + 0 ≡ (z - 1) * area S = omega arith in
-      rw (lt-ltb 0 (S .predictor .bands) b, lt-ltb 0 z q, i)
+  first-behind p b = let i : (z - 1) * area S + 0 ≡ (z - 1) * area S = omega arith in rw (b, lt-ltb 0 z p, i)
 
-  pub first-alone : n ≤ 0 → firstPrediction S (imageOf (S .image) samples) z ≡ two middle
+  middles : two (range.middle (S .image)) ≡ two middle
+  middles = ap (λ (m : ℤ). two m) (sym (f .middle-is))
+
+  -- no band predicts
+  pub first-none : ltb 0 (S .predictor .bands) ≡ false → firstPrediction S (imageOf (S .image) samples) z ≡ two middle
   unfolding firstPrediction
-  first-alone p = go (ltb 0 (S .predictor .bands)) (ltb 0 z) refl refl ∙ ap (λ (m : ℤ). two m) (sym (f .middle-is))
+  first-none b = rw b middles
+
+  -- the first band
+  pub first-band : z ≤ 0 → firstPrediction S (imageOf (S .image) samples) z ≡ two middle
+  unfolding firstPrediction
+  first-band p = rw (le-ltb 0 z p) (go (ltb 0 (S .predictor .bands)))
     where
-      go : (b c : Bool) → ltb 0 (S .predictor .bands) ≡ b → ltb 0 z ≡ c
-          → cond (b && c) (two (imageOf (S .image) samples (z - 1) 0)) (two (range.middle (S .image))) ≡ two (range.middle (S .image))
-      go true true g h = absurd (omega (arith, ltb-true 0 (S .predictor .bands) g, ltb-true 0 z h))
-      go true false g h = refl
-      go false c g h = refl
+      go : (b : Bool) → cond (b && false) (two (imageOf (S .image) samples (z - 1) 0)) (two (range.middle (S .image))) ≡ two middle
+      go true = middles
+      go false = middles

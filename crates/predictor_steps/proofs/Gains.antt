@@ -2,11 +2,11 @@
 use mathlib.Core.Path.{_≡_, refl, sym, _∙_, ap, ap₂}
 use mathlib.Core.Bool.{Bool, true, false}
 use mathlib.Core.List.{List, [], _∷_}
-use Prim.Native.Nat.{ℕ, zero, suc, _+_, _^_, _<_}
+use Prim.Native.Nat.{ℕ, zero, suc, _+_, _^_, _<_, _≤_}
 use native.Mathlib.Omega.{arith}
 use lib.Pow.{pow-pos}
-use lib.ListN.{length, getD}
-use lib.Seq.{ext-getD}
+use lib.ListN.{length, getD, set}
+use lib.Seq.{getD-set-other, ext-getD}
 use lib.IntN.{ℤ, pos, negsuc, natAbs, _+ℤ_, _-ℤ_, _*ℤ_}
 use lib.Signed.{leZ}
 use Rattle.integers.specs.Integer.{floorDiv, clip}
@@ -35,6 +35,11 @@ ends o p x e =
     let low : pos 0 -ℤ p ≡ lowestWeight o = ap (λ (q : ℤ). pos 0 -ℤ q) e ∙ omega (zs, sub (pos 0) d .value, neg d .value) in
     let high : p -ℤ pos 1 ≡ highestWeight o = ap (λ (q : ℤ). q -ℤ pos 1) e ∙ omega (zs, sub d (pos 1) .value) in
     ap₂ (λ (l h : ℤ). clip x l h) low high
+
+-- a store at i leaves the numbers behind it
+pub left-more : (w w₀ : List ℤ) (i : ℕ) (r : ℤ) → ((k : ℕ) → i ≤ k → getD w k (pos 0) ≡ getD w₀ k (pos 0))
+    → (k : ℕ) → i + 1 ≤ k → getD (set w i r) k (pos 0) ≡ getD w₀ k (pos 0)
+left-more w w₀ i r l k p = getD-set-other w i k r (pos 0) (λ q. omega arith) ∙ l k (omega arith)
 
 module _ (o : ℕ) (rho : ℤ) (up : Bool) where
   stepped-at : (us ws : List ℤ) → length us ≡ length ws → (k : ℕ) → k < length ws

@@ -1,8 +1,4 @@
 -- The mathematics of the functions, one file for each matter.
-pub mod SumCases
-pub mod SumFits
-pub mod Slots
-pub mod Components
 pub mod Sizes
 pub mod InnerSteps
 pub mod PredictionFits

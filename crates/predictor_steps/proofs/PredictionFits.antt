@@ -76,3 +76,12 @@ bounded-fits q low mid high fq fl fm fh hq =
       h2 = sz-fits zh tt;
       h21 = sz-fits (sz-add zh (sz-lit 1)) tt;
     }
+
+-- twice a sample
+pub record Twice (x : ℤ) : Type 0 where
+  pub x-32 : SFits w32 x
+  pub x-64 : SFits w64 x
+  pub r : SFits w64 (pos 2 *ℤ x)
+
+pub twice-fits : (x : ℤ) → SFits w32 x → Twice x
+twice-fits x f = record { x-32 = f; x-64 = wide f; r = sz-fits (sz-mul (sz-lit 2) (sz-of f)) tt }

@@ -1,5 +1,4 @@
-// The steps of the predictor (section 4): local sums and differences, the prediction, the weights, and the mapped residual.
+// The steps of the predictor behind the local differences (4.6 to 4.9): the weights, the prediction, and the mapped residual.
 pub mod mapping;
 pub mod prediction;
-pub mod sums;
 pub mod weights;

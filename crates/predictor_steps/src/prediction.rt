@@ -69,11 +69,10 @@ pub fn first_prediction(s: Settings, image: &[i32], z: usize, middle: i32) -> i6
     requires { ⌜ First s (now image) z middle ⌝ }
     ensures { λ r. ⌜ r ≡ firstPrediction s (imageOf (s .image) (now (image .entry))) z ⌝ }
 {
-    let behind = crate::sums::least(z, s.predictor.bands as usize);
-    if 0 < behind {
+    if 0 < z && 0 < s.predictor.bands {
         let area = (s.image.nx as usize) * (s.image.ny as usize);
         let at = (z - 1) * area;
-        return crate::sums::times(2, image[at]);
+        return 2 * (image[at] as i64);
     }
-    crate::sums::times(2, middle)
+    2 * (middle as i64)
 }

@@ -142,6 +142,7 @@ pub fn initial_weights(s: Settings, tables: &[i32], ws: &mut [i32], z: usize)
         put_eighths(ws, first);
         return;
     }
-    crate::sums::put_three(&mut ws[..3], 0, 0, 0);
+    // the eighths of 0: the directional components' weights begin as zeros
+    put_eighths(&mut ws[..3], 0);
     put_eighths(&mut ws[3..], first);
 }

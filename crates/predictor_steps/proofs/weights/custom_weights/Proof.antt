@@ -11,7 +11,7 @@ use Rattle.integers.specs.Laws.{ok}
 use Rattle.settings.specs.Lists.{join, one}
 use Rattle.settings.specs.ListLaws.{length-ones, getD-ones}
 use Rattle.predictor.specs.Weights.{customWeight}
-use Rattle.predictor_steps.proofs.Slots.{done-more}
+use Rattle.predictor.specs.Each.{done-more}
 use Rattle.predictor_steps.proofs.weights.custom_weights.Statement.{statement}
 use Rattle.predictor_steps.proofs.weights.custom_weights.Tie as tie
 

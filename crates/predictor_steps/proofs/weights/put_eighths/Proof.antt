@@ -9,8 +9,8 @@ use mir.Syntax.{w32}
 use mir.Facts.{toZ-pos}
 use Rattle.predictor.specs.Weights.{eighths}
 use Rattle.predictor.specs.Lengths.{eighths-length}
+use Rattle.predictor.specs.Each.{done-more}
 use Rattle.predictor_steps.proofs.Beginnings.{eighth-first, eighth-next}
-use Rattle.predictor_steps.proofs.Slots.{done-more}
 use Rattle.predictor_steps.proofs.weights.put_eighths.Statement.{statement}
 use Rattle.predictor_steps.proofs.weights.put_eighths.Tie as tie
 

@@ -9,8 +9,8 @@ use mir.Val.{toZ, ofZ}
 use mir.Facts.{toZ-ofZ}
 use Rattle.integers.specs.Laws.{ok}
 use Rattle.predictor.specs.WeightUpdate.{weightStep}
-use Rattle.predictor_steps.proofs.Gains.{stepped-are}
-use Rattle.predictor_steps.proofs.Slots.{done-more, left-more}
+use Rattle.predictor.specs.Each.{done-more}
+use Rattle.predictor_steps.proofs.Gains.{left-more, stepped-are}
 use Rattle.predictor_steps.proofs.weights.step_weights.Statement.{statement}
 use Rattle.predictor_steps.proofs.weights.step_weights.Tie as tie
 

@@ -1,8 +1,8 @@
--- `predictor_steps::sums::first_column_sum` meets its contract: every number on the way fits.
+-- `local_sums::sums::first_column_sum` meets its contract: every number on the way fits.
 use mir.Facts.{toZ-ofZ}
-use Rattle.predictor_steps.proofs.SumFits.{FirstColumn, first-column-fits}
-use Rattle.predictor_steps.proofs.sums.first_column_sum.Statement.{statement}
-use Rattle.predictor_steps.proofs.sums.first_column_sum.Tie as tie
+use Rattle.local_sums.proofs.SumFits.{FirstColumn, first-column-fits}
+use Rattle.local_sums.proofs.sums.first_column_sum.Statement.{statement}
+use Rattle.local_sums.proofs.sums.first_column_sum.Tie as tie
 
 at : (s : tie.Start) → FirstColumn (s .args .north) (s .args .east)
 at s = first-column-fits (s .args .north) (s .args .east) (s .fits .north) (s .fits .east)

@@ -1,4 +1,4 @@
--- `predictor_steps::sums::differences` meets its contract: the parts of us that are lent hold the differences, and joined they are the components.
+-- `local_sums::sums::differences` meets its contract: the parts of us that are lent hold the differences, and joined they are the components.
 use borrow.Author.Needs.{needs}
 use mathlib.Core.Path.{sym, _∙_}
 use Prim.Native.Nat.{_+_, _*_, _≤_}
@@ -11,10 +11,10 @@ use mir.Facts.{toZ-ofZ}
 use Rattle.integers.specs.Laws.{ok}
 use Rattle.predictor.specs.Asks.{bandFrom}
 use Rattle.predictor.specs.Inputs.{area-small, samples-small, base-small}
-use Rattle.predictor_steps.proofs.Components.{middle-long, window, narrow, n-most, below, reduced-are, full-are}
-use Rattle.predictor_steps.proofs.SumCases.{sum-small}
-use Rattle.predictor_steps.proofs.sums.differences.Statement.{statement}
-use Rattle.predictor_steps.proofs.sums.differences.Tie as tie
+use Rattle.local_sums.proofs.Components.{middle-long, window, narrow, n-most, below, reduced-are, full-are}
+use Rattle.local_sums.proofs.SumCases.{sum-small}
+use Rattle.local_sums.proofs.sums.differences.Statement.{statement}
+use Rattle.local_sums.proofs.sums.differences.Tie as tie
 
 cast-nx : tie.Need-cast-nx
 cast-nx c = search needs

@@ -1,4 +1,4 @@
--- `predictor_steps::sums::central` meets its contract: the sum of small samples is small, so that the difference fits.
+-- `local_sums::sums::central` meets its contract: the sum of small samples is small, so that the difference fits.
 use borrow.Author.Needs.{needs}
 use mathlib.Core.Path.{_∙_}
 use Prim.Native.Nat.{_+_}
@@ -6,9 +6,9 @@ use mir.Syntax.{w32, w64}
 use mir.Facts.{toZ-ofZ}
 use Rattle.integers.specs.Laws.{ok}
 use Rattle.predictor.specs.Asks.{bandFrom}
-use Rattle.predictor_steps.proofs.SumCases.{sum-small, central-is}
-use Rattle.predictor_steps.proofs.sums.central.Statement.{statement}
-use Rattle.predictor_steps.proofs.sums.central.Tie as tie
+use Rattle.local_sums.proofs.SumCases.{sum-small, central-is}
+use Rattle.local_sums.proofs.sums.central.Statement.{statement}
+use Rattle.local_sums.proofs.sums.central.Tie as tie
 
 local-sum-requires : tie.Need-local-sum-requires
 local-sum-requires c κs = search needs

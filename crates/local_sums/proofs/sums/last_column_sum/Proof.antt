@@ -1,8 +1,8 @@
--- `predictor_steps::sums::last_column_sum` meets its contract: every number on the way fits.
+-- `local_sums::sums::last_column_sum` meets its contract: every number on the way fits.
 use mir.Facts.{toZ-ofZ}
-use Rattle.predictor_steps.proofs.SumFits.{LastColumn, last-column-fits}
-use Rattle.predictor_steps.proofs.sums.last_column_sum.Statement.{statement}
-use Rattle.predictor_steps.proofs.sums.last_column_sum.Tie as tie
+use Rattle.local_sums.proofs.SumFits.{LastColumn, last-column-fits}
+use Rattle.local_sums.proofs.sums.last_column_sum.Statement.{statement}
+use Rattle.local_sums.proofs.sums.last_column_sum.Tie as tie
 
 at : (s : tie.Start) → LastColumn (s .args .west) (s .args .corner) (s .args .north)
 at s = last-column-fits (s .args .west) (s .args .corner) (s .args .north) (s .fits .west) (s .fits .corner) (s .fits .north)

@@ -1,9 +1,9 @@
--- `predictor_steps::sums::put_three` meets its contract: three stores make a list of three.
+-- `local_sums::sums::put_three` meets its contract: three stores make a list of three.
 use borrow.Author.Needs.{needs}
 use mir.Facts.{toZ-ofZ}
-use Rattle.predictor_steps.proofs.Slots.{three}
-use Rattle.predictor_steps.proofs.sums.put_three.Statement.{statement}
-use Rattle.predictor_steps.proofs.sums.put_three.Tie as tie
+use Rattle.local_sums.proofs.Slots.{three}
+use Rattle.local_sums.proofs.sums.put_three.Statement.{statement}
+use Rattle.local_sums.proofs.sums.put_three.Tie as tie
 
 slice-set-from-first : tie.Need-slice-set-from-first
 slice-set-from-first c = search needs

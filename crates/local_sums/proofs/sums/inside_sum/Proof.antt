@@ -1,8 +1,8 @@
--- `predictor_steps::sums::inside_sum` meets its contract: every number on the way fits.
+-- `local_sums::sums::inside_sum` meets its contract: every number on the way fits.
 use mir.Facts.{toZ-ofZ}
-use Rattle.predictor_steps.proofs.SumFits.{Inside, inside-fits}
-use Rattle.predictor_steps.proofs.sums.inside_sum.Statement.{statement}
-use Rattle.predictor_steps.proofs.sums.inside_sum.Tie as tie
+use Rattle.local_sums.proofs.SumFits.{Inside, inside-fits}
+use Rattle.local_sums.proofs.sums.inside_sum.Statement.{statement}
+use Rattle.local_sums.proofs.sums.inside_sum.Tie as tie
 
 at : (s : tie.Start) → Inside (s .args .west) (s .args .corner) (s .args .north) (s .args .east)
 at s =

@@ -1,4 +1,4 @@
--- `predictor_steps::sums::centrals` meets its contract: the slots passed hold the differences of the bands before, nearest first.
+-- `local_sums::sums::centrals` meets its contract: the slots passed hold the differences of the bands before, nearest first.
 use mathlib.Core.Path.{_≡_, refl}
 use Prim.Native.Nat.{ℕ, _-_, _<_, _≤_}
 use native.Mathlib.Omega.{arith}
@@ -9,10 +9,11 @@ use mir.Syntax.{w32}
 use mir.Facts.{toZ-ofZ}
 use Rattle.integers.specs.Laws.{ok}
 use Rattle.predictor.specs.Differences.{centralAt}
+use Rattle.predictor.specs.Each.{done-more}
 use Rattle.predictor.specs.Asks.{bandsOf}
-use Rattle.predictor_steps.proofs.Slots.{done-more, centrals-are}
-use Rattle.predictor_steps.proofs.sums.centrals.Statement.{statement}
-use Rattle.predictor_steps.proofs.sums.centrals.Tie as tie
+use Rattle.local_sums.proofs.Slots.{centrals-are}
+use Rattle.local_sums.proofs.sums.centrals.Statement.{statement}
+use Rattle.local_sums.proofs.sums.centrals.Tie as tie
 
 abbrev Inv-loop : tie.InvT-loop
 Inv-loop image us₀ z area t x nx column i₀ us i =

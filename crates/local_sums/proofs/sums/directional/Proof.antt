@@ -1,4 +1,4 @@
--- `predictor_steps::sums::directional` meets its contract: each branch is one case of the differences, and its neighbours lie inside the band.
+-- `local_sums::sums::directional` meets its contract: each branch is one case of the differences, and its neighbours lie inside the band.
 use borrow.Author.Needs.{needs}
 use mathlib.Core.Path.{_≡_, sym, _∙_}
 use Prim.Native.Nat.{_+_, _-_, _<_}
@@ -10,9 +10,9 @@ use mir.Facts.{toZ-ofZ}
 use Rattle.integers.specs.Laws.{ok}
 use Rattle.predictor.specs.LocalSum.{four}
 use Rattle.predictor.specs.Asks.{bandFrom}
-use Rattle.predictor_steps.proofs.SumCases.{past, directional-top, directional-first, directional-inside}
-use Rattle.predictor_steps.proofs.sums.directional.Statement.{statement}
-use Rattle.predictor_steps.proofs.sums.directional.Tie as tie
+use Rattle.local_sums.proofs.SumCases.{past, directional-top, directional-first, directional-inside}
+use Rattle.local_sums.proofs.sums.directional.Statement.{statement}
+use Rattle.local_sums.proofs.sums.directional.Tie as tie
 
 put-three-requires : tie.Need-put-three-requires
 put-three-requires c κs = search needs

@@ -1,8 +1,8 @@
--- `predictor_steps::sums::difference` meets its contract: every number on the way fits.
+-- `local_sums::sums::difference` meets its contract: every number on the way fits.
 use mir.Facts.{toZ-ofZ}
-use Rattle.predictor_steps.proofs.SumFits.{Difference, difference-fits}
-use Rattle.predictor_steps.proofs.sums.difference.Statement.{statement}
-use Rattle.predictor_steps.proofs.sums.difference.Tie as tie
+use Rattle.local_sums.proofs.SumFits.{Difference, difference-fits}
+use Rattle.local_sums.proofs.sums.difference.Statement.{statement}
+use Rattle.local_sums.proofs.sums.difference.Tie as tie
 
 at : (c : tie.Start) → Difference (c .args .sample) (c .args .sum)
 at c = difference-fits (c .args .sample) (c .args .sum) (c .fits .sample) (c .fits .sum) (c .pre .0) (c .pre .1)

@@ -1,27 +1,14 @@
--- Lists that loops make slot by slot.
+-- Lists that stores make slot by slot.
 use mathlib.Core.Path.{_≡_, refl, sym, _∙_}
 use mathlib.Core.Bool.{Bool}
 use mathlib.Core.List.{List, [], _∷_}
-use Prim.Native.Nat.{ℕ, zero, suc, _+_, _-_, _<_, _≤_}
+use Prim.Native.Nat.{ℕ, zero, suc, _-_, _<_}
 use native.Mathlib.Omega.{arith}
-use native.Mathlib.Decide.{ℕ-discrete}
 use lib.ListN.{length, getD, set}
-use lib.Seq.{getD-set-same, getD-set-other, ext-getD}
+use lib.Seq.{ext-getD}
 use lib.IntN.{ℤ, pos}
 use Rattle.predictor.specs.Differences.{Image, centralAt, centralsAt}
 use Rattle.predictor.specs.Lengths.{centralsAt-length}
-
-pub done-more : (w : List ℤ) (i : ℕ) (r : ℤ) (f : ℕ → ℤ) → i < length w → ((k : ℕ) → k < i → getD w k (pos 0) ≡ f k) → r ≡ f i
-    → (k : ℕ) → k < i + 1 → getD (set w i r) k (pos 0) ≡ f k
-done-more w i r f h d e k p = go (ℕ-discrete k i)
-  where
-    go : Dec (k ≡ i) → getD (set w i r) k (pos 0) ≡ f k
-    go (yes q) = rw q (getD-set-same w i r (pos 0) h ∙ e)
-    go (no q) = getD-set-other w i k r (pos 0) q ∙ d k (omega arith)
-
-pub left-more : (w w₀ : List ℤ) (i : ℕ) (r : ℤ) → ((k : ℕ) → i ≤ k → getD w k (pos 0) ≡ getD w₀ k (pos 0))
-    → (k : ℕ) → i + 1 ≤ k → getD (set w i r) k (pos 0) ≡ getD w₀ k (pos 0)
-left-more w w₀ i r l k p = getD-set-other w i k r (pos 0) (λ q. omega arith) ∙ l k (omega arith)
 
 pub three : (l : List ℤ) (a b c : ℤ) → length l ≡ 3 → set (set (set l 0 a) 1 b) 2 c ≡ a ∷ b ∷ c ∷ []
 three [] a b c h = absurd (omega arith)

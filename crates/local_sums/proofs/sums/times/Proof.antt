@@ -1,7 +1,7 @@
--- `predictor_steps::sums::times` meets its contract: the product of two numbers of 32 bits fits 64.
+-- `local_sums::sums::times` meets its contract: the product of two numbers of 32 bits fits 64.
 use Rattle.integers.specs.Laws.{z64}
-use Rattle.predictor_steps.proofs.sums.times.Statement.{statement}
-use Rattle.predictor_steps.proofs.sums.times.Tie as tie
+use Rattle.local_sums.proofs.sums.times.Statement.{statement}
+use Rattle.local_sums.proofs.sums.times.Tie as tie
 
 cast-result : tie.Need-cast-result
 cast-result c = search z64

@@ -1,4 +1,4 @@
--- `predictor_steps::sums::local_sum` meets its contract: each branch is one case of the sum, and its neighbours lie inside the band.
+-- `local_sums::sums::local_sum` meets its contract: each branch is one case of the sum, and its neighbours lie inside the band.
 use borrow.Author.Needs.{needs}
 use mathlib.Core.Path.{_≡_, sym, _∙_}
 use Prim.Native.Nat.{_+_, _-_, _<_}
@@ -10,9 +10,9 @@ use mir.Facts.{toZ-ofZ}
 use Rattle.integers.specs.Laws.{ok}
 use Rattle.predictor.specs.LocalSum.{two, four}
 use Rattle.predictor.specs.Asks.{bandFrom}
-use Rattle.predictor_steps.proofs.SumCases.{past, last-column, sum-top, sum-column, sum-last, sum-first, sum-inside}
-use Rattle.predictor_steps.proofs.sums.local_sum.Statement.{statement}
-use Rattle.predictor_steps.proofs.sums.local_sum.Tie as tie
+use Rattle.local_sums.proofs.SumCases.{past, last-column, sum-top, sum-column, sum-last, sum-first, sum-inside}
+use Rattle.local_sums.proofs.sums.local_sum.Statement.{statement}
+use Rattle.local_sums.proofs.sums.local_sum.Tie as tie
 
 sub-times : tie.Need-sub-times
 sub-times c = search needs
