@@ -31,7 +31,7 @@ use settings::tables::STRIDE;
 use settings::tables::component_count;
 
 // Table 5-1: M is zero where bands are sequential, and the coder's type is zero.
-pub fn write_image(t: Tail, out: &mut [u8], i: Image) -> Tail
+fn write_image(t: Tail, out: &mut [u8], i: Image) -> Tail
     requires { ⌜ (t .count < 32) × (t .at ≤ 2 ^ 40) ⌝ }
     ensures { λ r. ⌜ Put t (now (out .entry)) (fields (imageFields i 0)) r (now (out .exit)) ⌝ }
 {
@@ -83,7 +83,7 @@ fn raised(v: i32) -> u32
 }
 
 // Table 5-2: Q is zero beside default weights.
-pub fn write_predictor(t: Tail, out: &mut [u8], i: Image, p: Predictor) -> Tail
+fn write_predictor(t: Tail, out: &mut [u8], i: Image, p: Predictor) -> Tail
     requires { ⌜ (predictorLegal i p ≡ true) × (t .count < 32) × (t .at ≤ 2 ^ 40) ⌝ }
     ensures { λ r. ⌜ Put t (now (out .entry)) (fields (predictorFields p)) r (now (out .exit)) ⌝ }
 {
@@ -120,7 +120,7 @@ pub fn write_predictor(t: Tail, out: &mut [u8], i: Image, p: Predictor) -> Tail
 }
 
 // Table 5-3: K is all ones beside its table.
-pub fn write_coder(t: Tail, out: &mut [u8], i: Image, c: Coder) -> Tail
+fn write_coder(t: Tail, out: &mut [u8], i: Image, c: Coder) -> Tail
     requires { ⌜ (coderLegal i c ≡ true) × (t .count < 32) × (t .at ≤ 2 ^ 40) ⌝ }
     ensures { λ r. ⌜ Put t (now (out .entry)) (fields (coderFields c)) r (now (out .exit)) ⌝ }
 {
@@ -179,7 +179,7 @@ fn write_bands(t: Tail, out: &mut [u8], s: Settings, tables: &[i32]) -> Tail
 }
 
 // The weight table with its fill, where weights are custom.
-pub fn write_weights(t: Tail, out: &mut [u8], s: Settings, tables: &[i32]) -> Tail
+fn write_weights(t: Tail, out: &mut [u8], s: Settings, tables: &[i32]) -> Tail
     requires { ⌜ Writable s (now tables) × (t .count < 32) × (t .at ≤ 2 ^ 40) ⌝ }
     ensures { λ r. ⌜ Put t (now (out .entry)) (weightPart s (now (tables .entry))) r (now (out .exit)) ⌝ }
 {
@@ -218,7 +218,7 @@ fn write_entries(t: Tail, out: &mut [u8], s: Settings, tables: &[i32]) -> Tail
 }
 
 // The table of k' with its fill, where one K does not serve all bands.
-pub fn write_accumulators(t: Tail, out: &mut [u8], s: Settings, tables: &[i32]) -> Tail
+fn write_accumulators(t: Tail, out: &mut [u8], s: Settings, tables: &[i32]) -> Tail
     requires { ⌜ Writable s (now tables) × (t .count < 32) × (t .at ≤ 2 ^ 41) ⌝ }
     ensures { λ r. ⌜ Put t (now (out .entry)) (accumulatorPart s (now (tables .entry))) r (now (out .exit)) ⌝ }
 {

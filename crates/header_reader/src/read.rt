@@ -81,7 +81,7 @@ fn image_numbers(file: &[u8]) -> [u32; 13]
 }
 
 // The first 12 bytes: present, then their fields, then the coder's type, then the house limits.
-pub fn read_image(file: &[u8]) -> ImageRead
+fn read_image(file: &[u8]) -> ImageRead
     ensures { λ r. ⌜ r ≡ imageRead (readImage (unpack (now (file .entry)))) ⌝ }
 {
     if ends_before(file, 96) {
@@ -117,7 +117,7 @@ fn predictor_numbers(file: &[u8]) -> [u32; 15]
 }
 
 // The five bytes behind: present, then their fields.
-pub fn read_predictor(file: &[u8], image: Image) -> PredictorRead
+fn read_predictor(file: &[u8], image: Image) -> PredictorRead
     ensures { λ r. ⌜ r ≡ predictorRead (readPredictor image (drop 96 (unpack (now (file .entry))))) ⌝ }
 {
     if ends_before(file, 136) {
@@ -142,7 +142,7 @@ fn coder_numbers(file: &[u8], at: usize) -> [u32; 5]
 }
 
 // The two bytes from a position on: present, then their fields.
-pub fn read_coder(file: &[u8], at: usize, image: Image) -> CoderRead
+fn read_coder(file: &[u8], at: usize, image: Image) -> CoderRead
     requires { ⌜ at ≤ 2 ^ 30 ⌝ }
     ensures { λ r. ⌜ r ≡ coderRead (readCoder image (drop at (unpack (now (file .entry))))) ⌝ }
 {
@@ -169,7 +169,7 @@ fn fill_clear(file: &[u8], at: usize, width: usize) -> bool
 }
 
 // The weight table, where there is one: present, then its fill. Any value is a weight.
-pub fn read_weights(file: &[u8], image: Image, predictor: Predictor) -> Checked
+fn read_weights(file: &[u8], image: Image, predictor: Predictor) -> Checked
     requires { ⌜ (predictorLegal image predictor ≡ true) × (image .nz ≤ 512) × (136 ≤ length (unpack (now file))) ⌝ }
     ensures { λ r. ⌜ r ≡ tableRead (readWeights image predictor (drop 136 (unpack (now (file .entry))))) ⌝ }
 {
@@ -205,7 +205,7 @@ fn entries_legal(file: &[u8], at: usize, image: Image) -> bool
 }
 
 // The table of k', where there is one: present, then its entries and its fill.
-pub fn read_accumulators(file: &[u8], at: usize, image: Image, coder: Coder) -> Checked
+fn read_accumulators(file: &[u8], at: usize, image: Image, coder: Coder) -> Checked
     requires { ⌜ (2 ≤ image .depth) × (image .nz ≤ 512) × (at ≤ 2 ^ 29) × (at ≤ length (unpack (now file))) ⌝ }
     ensures { λ r. ⌜ r ≡ tableRead (readAccumulators image coder (drop at (unpack (now (file .entry))))) ⌝ }
 {

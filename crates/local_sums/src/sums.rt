@@ -11,7 +11,7 @@ ghost use Rattle.predictor.specs.Asks.{Sample, Window, Narrow, Below, Differing
 use settings::Settings;
 
 // A sample as often as it counts.
-pub fn times(count: i32, sample: i32) -> i64
+fn times(count: i32, sample: i32) -> i64
     ensures { λ r. ⌜ r ≡ count *ℤ sample ⌝ }
 {
     (count as i64) * (sample as i64)
@@ -39,7 +39,7 @@ fn inside_sum(west: i32, corner: i32, north: i32, east: i32) -> i64
 }
 
 // The local sum at place t, in column x, of the band whose samples begin at base.
-pub fn local_sum(image: &[i32], base: usize, t: usize, x: usize, nx: usize, column: bool) -> i64
+fn local_sum(image: &[i32], base: usize, t: usize, x: usize, nx: usize, column: bool) -> i64
     requires { ⌜ Window (now image) base t x nx × Narrow nx column ⌝ }
     ensures { λ r. ⌜ r ≡ sumAt nx column (bandFrom (now (image .entry)) base) t ⌝ }
 {
@@ -77,7 +77,7 @@ fn difference(sample: i32, sum: i64) -> i32
 }
 
 // The central difference at place t of the band whose samples begin at base.
-pub fn central(image: &[i32], base: usize, t: usize, x: usize, nx: usize, column: bool) -> i32
+fn central(image: &[i32], base: usize, t: usize, x: usize, nx: usize, column: bool) -> i32
     requires { ⌜ Window (now image) base t x nx × Narrow nx column × Each Sample (now image) ⌝ }
     ensures { λ r. ⌜ r ≡ centralAt nx column (bandFrom (now (image .entry)) base) t ⌝ }
 {
@@ -86,7 +86,7 @@ pub fn central(image: &[i32], base: usize, t: usize, x: usize, nx: usize, column
 }
 
 // The central differences of the bands before band z, as many as us has, nearest first.
-pub fn centrals(
+fn centrals(
     image: &[i32],
     us: &mut [i32],
     z: usize,
@@ -108,7 +108,7 @@ pub fn centrals(
 }
 
 // Three numbers into three slots.
-pub fn put_three(us: &mut [i32], first: i32, second: i32, third: i32)
+fn put_three(us: &mut [i32], first: i32, second: i32, third: i32)
     requires { ⌜ length (now us) ≡ 3 ⌝ }
     ensures { λ r. ⌜ now (us .exit) ≡ first ∷ second ∷ third ∷ [] ⌝ }
 {
@@ -118,7 +118,7 @@ pub fn put_three(us: &mut [i32], first: i32, second: i32, third: i32)
 }
 
 // The directional differences at place t: north, west, north-west.
-pub fn directional(
+fn directional(
     image: &[i32],
     us: &mut [i32],
     base: usize,

@@ -10,7 +10,7 @@ ghost use Rattle.predictor.specs.Asks.{Sample, Pairs, Terms, First};
 use settings::Settings;
 
 // The inner product of weights and components.
-pub fn inner(ws: &[i32], us: &[i32]) -> i64
+fn inner(ws: &[i32], us: &[i32]) -> i64
     requires { ⌜ Pairs (now ws) (now us) ⌝ }
     ensures { λ r. ⌜ r ≡ inner (now (ws .entry)) (now (us .entry)) ⌝ }
 {

@@ -11,7 +11,7 @@ ghost use Rattle.predictor.specs.Asks.{Stepping, Schedule, Customs, Beginning};
 use settings::Settings;
 
 // ⌊(2^−ρ·v + 1) / 2⌋, for ρ of either sign.
-pub fn gain(v: i64, rho: i32) -> i64
+fn gain(v: i64, rho: i32) -> i64
     requires { ⌜ (natAbs v ≤ 2 ^ 19) × (natAbs rho ≤ 30) ⌝ }
     ensures { λ r. ⌜ r ≡ gain rho v ⌝ }
 {
@@ -25,7 +25,7 @@ pub fn gain(v: i64, rho: i32) -> i64
 }
 
 // One weight's step, up where the error is not negative.
-pub fn weight_step(w: i32, u: i32, rho: i32, up: bool, resolution: u32) -> i32
+fn weight_step(w: i32, u: i32, rho: i32, up: bool, resolution: u32) -> i32
     requires { ⌜ (natAbs w ≤ 2 ^ 21) × (natAbs u ≤ 2 ^ 19) × (natAbs rho ≤ 30) × (resolution ≤ 19) ⌝ }
     ensures { λ r. ⌜ r ≡ weightStep resolution rho up u w ⌝ }
 {
@@ -97,7 +97,7 @@ fn half_less(bits: u32) -> u32
 }
 
 // The weight of a table value.
-pub fn custom_weight(value: i32, resolution: u32, precision: u32) -> i32
+fn custom_weight(value: i32, resolution: u32, precision: u32) -> i32
     requires { ⌜ (resolution ≤ 19) × (precision ≤ resolution + 3) × (natAbs (customWeight resolution precision value) ≤ 2 ^ 21) ⌝ }
     ensures { λ r. ⌜ r ≡ customWeight resolution precision value ⌝ }
 {

@@ -20,7 +20,7 @@ pub const ACCUMULATOR_SLOT: usize = 18;
 pub const SCRATCH_STRIDE: usize = 32;
 
 // The bands before band z that predict it.
-pub fn backward(p: Predictor, z: usize) -> usize
+fn backward(p: Predictor, z: usize) -> usize
     ensures { λ r. ⌜ r ≡ backward p z ⌝ }
 {
     let bands = p.bands as usize;
@@ -39,7 +39,7 @@ pub fn component_count(p: Predictor, z: usize) -> usize
 }
 
 // v is a signed number of q bits.
-pub fn weight_legal(q: u32, v: i32) -> bool
+fn weight_legal(q: u32, v: i32) -> bool
     requires { ⌜ 1 ≤ q ⌝ }
     requires { ⌜ q ≤ 31 ⌝ }
     ensures { λ r. ⌜ r ≡ weightLegal q v ⌝ }
@@ -49,7 +49,7 @@ pub fn weight_legal(q: u32, v: i32) -> bool
 }
 
 // 0 ≤ k' ≤ D − 2
-pub fn accumulator_legal(depth: u32, v: i32) -> bool
+fn accumulator_legal(depth: u32, v: i32) -> bool
     requires { ⌜ 2 ≤ depth ⌝ }
     requires { ⌜ depth ≤ 16 ⌝ }
     ensures { λ r. ⌜ r ≡ accumulatorLegal depth v ⌝ }
@@ -106,7 +106,7 @@ fn tabled_legal(i: Image, c: Coder, tables: &[i32], z: usize) -> bool
 }
 
 // The values of band z that the settings use.
-pub fn band_legal(s: Settings, tables: &[i32], z: usize) -> bool
+fn band_legal(s: Settings, tables: &[i32], z: usize) -> bool
     requires { ⌜ settingsLegal s ≡ true ⌝ }
     requires { ⌜ stride * (z + 1) ≤ length (now tables) ⌝ }
     ensures { λ r. ⌜ r ≡ bandLegal s (now (tables .entry)) z ⌝ }

@@ -64,7 +64,7 @@ fn used_number(l: &[i32], i: usize, used: bool) -> u32
 
 // ---- tests: the record can hold the slots of a part
 
-pub fn image_holds(l: &[i32]) -> bool
+fn image_holds(l: &[i32]) -> bool
     requires { ⌜ slotCount ≤ length (now l) ⌝ }
     ensures { λ r. ⌜ r ≡ imageHolds (now (l .entry)) ⌝ }
 {
@@ -79,7 +79,7 @@ pub fn image_holds(l: &[i32]) -> bool
         & slot_natural(l, 8)
 }
 
-pub fn predictor_holds(l: &[i32]) -> bool
+fn predictor_holds(l: &[i32]) -> bool
     requires { ⌜ slotCount ≤ length (now l) ⌝ }
     ensures { λ r. ⌜ r ≡ predictorHolds (now (l .entry)) ⌝ }
 {
@@ -93,7 +93,7 @@ pub fn predictor_holds(l: &[i32]) -> bool
         & (!slot_set(l, 17) | slot_natural(l, 18))
 }
 
-pub fn coder_holds(l: &[i32]) -> bool
+fn coder_holds(l: &[i32]) -> bool
     requires { ⌜ slotCount ≤ length (now l) ⌝ }
     ensures { λ r. ⌜ r ≡ coderHolds (now (l .entry)) ⌝ }
 {
@@ -104,7 +104,7 @@ pub fn coder_holds(l: &[i32]) -> bool
         & (slot_set(l, 22) | slot_natural(l, 23))
 }
 
-pub fn holds(l: &[i32]) -> bool
+fn holds(l: &[i32]) -> bool
     requires { ⌜ slotCount ≤ length (now l) ⌝ }
     ensures { λ r. ⌜ r ≡ holds (now (l .entry)) ⌝ }
 {
@@ -126,7 +126,7 @@ pub fn slots_checked(l: &[i32]) -> Checked
 
 // ---- the record that the slots name
 
-pub fn image_from(l: &[i32]) -> Image
+fn image_from(l: &[i32]) -> Image
     requires { ⌜ slotCount ≤ length (now l) ⌝ }
     requires { ⌜ holds (now l) ≡ true ⌝ }
     ensures { λ r. ⌜ r ≡ imageFrom (now (l .entry)) ⌝ }
@@ -145,7 +145,7 @@ pub fn image_from(l: &[i32]) -> Image
     }
 }
 
-pub fn predictor_from(l: &[i32]) -> Predictor
+fn predictor_from(l: &[i32]) -> Predictor
     requires { ⌜ slotCount ≤ length (now l) ⌝ }
     ensures { λ r. ⌜ r ≡ predictorFrom (now (l .entry)) ⌝ }
 {
@@ -164,7 +164,7 @@ pub fn predictor_from(l: &[i32]) -> Predictor
     }
 }
 
-pub fn coder_from(l: &[i32]) -> Coder
+fn coder_from(l: &[i32]) -> Coder
     requires { ⌜ slotCount ≤ length (now l) ⌝ }
     ensures { λ r. ⌜ r ≡ coderFrom (now (l .entry)) ⌝ }
 {
