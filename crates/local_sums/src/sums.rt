@@ -118,15 +118,7 @@ fn put_three(us: &mut [i32], first: i32, second: i32, third: i32)
 }
 
 // The directional differences at place t: north, west, north-west.
-fn directional(
-    image: &[i32],
-    us: &mut [i32],
-    base: usize,
-    t: usize,
-    x: usize,
-    nx: usize,
-    sum: i64,
-)
+fn directional(image: &[i32], us: &mut [i32], base: usize, t: usize, x: usize, nx: usize, sum: i64)
     requires { ⌜ Window (now image) base t x nx × Each Sample (now image) × (natAbs sum ≤ 2 ^ 18) × (length (now us) ≡ 3) ⌝ }
     ensures { λ r. ⌜ now (us .exit) ≡ directional (positionAt nx t) (neighboursAt nx (bandFrom (now (image .entry)) base) t) sum ⌝ }
 {

@@ -10,7 +10,7 @@ use Rattle.cube.proofs.open.open_lent.Tie as tie
 use Rattle.cube.proofs.open.open_lent.Reads as reads
 use Rattle.cube.proofs.open.open_lent.Lts as lts
 use Rattle.cube.proofs.open.open_body.Reads as open-body-reads
-use Rattle.settings.proofs.check.areas_short.Reads as areas-short-reads
+use Rattle.checks.proofs.check.areas_short.Reads as areas-short-reads
 use Rattle.settings.proofs.legal.sample_count.Reads as sample-count-reads
 
 -- src/open.rt:108:31

@@ -13,7 +13,7 @@ use Rattle.cube.proofs.pack.length.Tie as tie
 use Rattle.cube.proofs.pack.length.Reads as reads
 use Rattle.cube.proofs.pack.length.Lts as lts
 use Rattle.cube.proofs.pack.write_file.Reads as write-file-reads
-use Rattle.settings.proofs.check.check_pack.Reads as check-pack-reads
+use Rattle.checks.proofs.check.check_pack.Reads as check-pack-reads
 
 -- src/pack.rt:92:9
 check-pack-requires : tie.Need-check-pack-requires

@@ -9,7 +9,7 @@ use Rattle.cube.proofs.pack.pack.Tie as tie
 use Rattle.cube.proofs.pack.pack.Reads as reads
 use Rattle.cube.proofs.pack.pack.Lts as lts
 use Rattle.cube.proofs.pack.pack_fine.Reads as pack-fine-reads
-use Rattle.settings.proofs.check.check_pack.Reads as check-pack-reads
+use Rattle.checks.proofs.check.check_pack.Reads as check-pack-reads
 
 -- src/pack.rt:81:9
 check-pack-requires : tie.Need-check-pack-requires

@@ -1,9 +1,9 @@
 -- The products of 32-bit sizes fit, and the comparisons are the definition's.
 use mathlib.Core.Path.{refl}
 use borrow.Author.Needs.{needs}
 use Rattle.settings.specs.Checks.{areasShort}
-use Rattle.settings.proofs.check.areas_short.Statement.{statement}
-use Rattle.settings.proofs.check.areas_short.Tie as tie
+use Rattle.checks.proofs.check.areas_short.Statement.{statement}
+use Rattle.checks.proofs.check.areas_short.Tie as tie
 
 cast-bands : tie.Need-cast-bands
 cast-bands c = search needs

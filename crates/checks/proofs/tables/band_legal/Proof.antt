@@ -1,9 +1,9 @@
 -- A band is legal where both of its parts are; legal settings bound the depth, the precision and the number of components.
 use native.Mathlib.Omega.{arith}
 use Rattle.settings.specs.Tables.{bandLegal}
 use Rattle.settings.specs.LegalLaws.{legal-settings}
-use Rattle.settings.proofs.tables.band_legal.Statement.{statement}
-use Rattle.settings.proofs.tables.band_legal.Tie as tie
+use Rattle.checks.proofs.tables.band_legal.Statement.{statement}
+use Rattle.checks.proofs.tables.band_legal.Tie as tie
 
 custom-legal-requires : tie.Need-custom-legal-requires
 custom-legal-requires c κs =

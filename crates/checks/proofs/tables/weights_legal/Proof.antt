@@ -10,10 +10,10 @@ use mir.Val.{SFits}
 use mir.Facts.{toZ-ofZ}
 use borrow.Author.Needs.{needs, sfits-of}
 use borrow.Author.Tests.{not-true, not-false}
 use Rattle.settings.specs.Tables.{stride, entry, every, weightLegal}
 use Rattle.settings.specs.TableLaws.{every-of, every-more, every-not, every-same}
-use Rattle.settings.proofs.tables.weights_legal.Statement.{statement}
-use Rattle.settings.proofs.tables.weights_legal.Tie as tie
+use Rattle.checks.proofs.tables.weights_legal.Statement.{statement}
+use Rattle.checks.proofs.tables.weights_legal.Tie as tie
 
 abbrev Inv-loop : tie.InvT-loop
 Inv-loop q tables z count base i₀ i = (i ≤ count) × (every i (λ j. weightLegal q (entry tables z j)) ≡ true)

@@ -7,10 +7,10 @@ use mir.Syntax.{w32}
 use mir.Val.{SFits}
 use mir.Facts.{toZ-ofZ}
 use borrow.Author.Needs.{sfits-of, needs}
 use Rattle.settings.specs.Tables.{stride, accumulatorSlot, entry, accumulatorLegal}
 use Rattle.settings.specs.Truths.{asked}
-use Rattle.settings.proofs.tables.tabled_legal.Statement.{statement}
-use Rattle.settings.proofs.tables.tabled_legal.Tie as tie
+use Rattle.checks.proofs.tables.tabled_legal.Statement.{statement}
+use Rattle.checks.proofs.tables.tabled_legal.Tie as tie
 
 returns : tie.Need-returns
 returns c = search needs

@@ -7,13 +7,13 @@ use lib.Dec.{eqb}
 use lib.ListN.{length}
 use borrow.Author.Tests.{not-true, not-false, lt-ltb, le-ltb}
 use borrow.Author.Needs.{needs}
 use Rattle.settings.specs.Legal.{settingsLegal, limited, sampleCount}
 use Rattle.settings.specs.LegalLaws.{legal-settings, count-fits}
 use Rattle.settings.specs.Tables.{tablesLegal}
 use Rattle.settings.specs.Checks.{firstHit, areasShort, checkPack}
 use Rattle.settings.specs.CheckLaws.{roomy}
-use Rattle.settings.proofs.check.check_pack.Statement.{statement}
-use Rattle.settings.proofs.check.check_pack.Tie as tie
+use Rattle.checks.proofs.check.check_pack.Statement.{statement}
+use Rattle.checks.proofs.check.check_pack.Tie as tie
 
 -- what each test that passed shows
 legal : (c : tie.Else1) → settingsLegal (c .before .before .args .s) ≡ true

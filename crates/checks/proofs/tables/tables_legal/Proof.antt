@@ -5,10 +5,10 @@ use Prim.Native.Nat.{_-_, _≤_}
 use native.Mathlib.Omega.{arith}
 use borrow.Author.Needs.{needs}
 use borrow.Author.Tests.{not-true, not-false}
 use Rattle.settings.specs.Tables.{every, bandLegal, tablesLegal}
 use Rattle.settings.specs.TableLaws.{every-of, every-more, every-not, every-same}
-use Rattle.settings.proofs.tables.tables_legal.Statement.{statement}
-use Rattle.settings.proofs.tables.tables_legal.Tie as tie
+use Rattle.checks.proofs.tables.tables_legal.Statement.{statement}
+use Rattle.checks.proofs.tables.tables_legal.Tie as tie
 
 abbrev Inv-loop : tie.InvT-loop
 Inv-loop s tables bands z₀ z = (z ≤ bands) × (every z (bandLegal s tables) ≡ true)

@@ -1,16 +1,16 @@
 // The writer's tests in document 01's order: the first that fails decides.
-use super::Checked;
-use super::Refusal;
-use super::Settings;
-use super::legal::limited;
-use super::legal::sample_count;
-use super::legal::settings_legal;
 use super::range::first_out;
-use super::tables::SCRATCH_STRIDE;
-use super::tables::STRIDE;
 use super::tables::tables_legal;
+use settings::Checked;
+use settings::Refusal;
+use settings::Settings;
+use settings::legal::limited;
+use settings::legal::sample_count;
+use settings::legal::settings_legal;
+use settings::tables::SCRATCH_STRIDE;
+use settings::tables::STRIDE;
 ghost use mathlib.Core.Path.{_≡_};
 ghost use Rattle.settings.specs.Checks.{areasShort, checkPack};
 
 // Scratch or the table area has too few slots for the bands.
 pub fn areas_short(s: Settings, scratch: usize, tables: usize) -> bool

@@ -4,9 +4,9 @@ use native.Mathlib.Omega.{arith}
 use mir.Syntax.{w32}
 use mir.Facts.{toZ-ofZ, toZ-pos}
 use borrow.Author.Needs.{needs}
 use Rattle.settings.specs.Tables.{accumulatorLegal}
-use Rattle.settings.proofs.tables.accumulator_legal.Statement.{statement}
-use Rattle.settings.proofs.tables.accumulator_legal.Tie as tie
+use Rattle.checks.proofs.tables.accumulator_legal.Statement.{statement}
+use Rattle.checks.proofs.tables.accumulator_legal.Tie as tie
 
 sub-result : tie.Need-sub-result
 sub-result c = search needs

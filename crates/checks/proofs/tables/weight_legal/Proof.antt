@@ -4,10 +4,10 @@ use native.Mathlib.Omega.{arith}
 use mir.Syntax.{w32}
 use mir.Facts.{toZ-ofZ, toZ-pos}
 use borrow.Author.Needs.{needs}
 use Rattle.settings.specs.Tables.{weightLegal}
 use Rattle.settings.specs.Words.{negated, power-of}
-use Rattle.settings.proofs.tables.weight_legal.Statement.{statement}
-use Rattle.settings.proofs.tables.weight_legal.Tie as tie
+use Rattle.checks.proofs.tables.weight_legal.Statement.{statement}
+use Rattle.checks.proofs.tables.weight_legal.Tie as tie
 
 small : (c : tie.After-power) → c .power .result < 2 ^ 31
 small c = power-of (c .power .result) (c .before .args .q - 1) (c .power .ensures) (omega arith) .small

@@ -5,9 +5,9 @@ use Prim.Native.Nat.{_≤_}
 use native.Mathlib.Omega.{arith}
 use borrow.Author.Tests.{not-false}
 use borrow.Author.Needs.{needs}
 use Rattle.settings.specs.TableLaws.{components-fit, weights-asked}
-use Rattle.settings.proofs.tables.custom_legal.Statement.{statement}
-use Rattle.settings.proofs.tables.custom_legal.Tie as tie
+use Rattle.checks.proofs.tables.custom_legal.Statement.{statement}
+use Rattle.checks.proofs.tables.custom_legal.Tie as tie
 
 returns : tie.Need-returns
 returns c = search needs
