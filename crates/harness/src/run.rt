@@ -9,11 +9,11 @@
 // Any other kind, and the end of the input, end the run. Words are of 32 bits, most significant byte first.
 // A call that asks for more than the arrays hold is not made, and its line says `over`. Where not even what follows its head can be
 // read, the run ends there.
-use super::answer::run_reader;
-use super::answer::run_writer;
-use super::lines::over;
-use super::parse::SETTINGS_BYTES;
-use super::words::word_at;
+use answers::answer::run_reader;
+use answers::answer::run_writer;
+use cases::lines::over;
+use cases::parse::SETTINGS_BYTES;
+use cases::words::word_at;
 use libc::STDIN_FILENO;
 
 // How much a call may lend. The input is made to fit (rust/plain/src/feed.rs has the same numbers).

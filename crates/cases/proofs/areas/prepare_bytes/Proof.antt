@@ -4,8 +4,8 @@ use Prim.Native.Nat.{_-_}
 use native.Mathlib.Omega.{arith}
 use lib.ListN.{length, length-set}
 use mathlib.Core.Path.{_≡_}
-use Rattle.harness.proofs.areas.prepare_bytes.Statement.{statement}
-use Rattle.harness.proofs.areas.prepare_bytes.Tie as tie
+use Rattle.cases.proofs.areas.prepare_bytes.Statement.{statement}
+use Rattle.cases.proofs.areas.prepare_bytes.Tie as tie
 
 abbrev Inv-loop : tie.InvT-loop
 Inv-loop area₀ i₀ area i = length area ≡ length area₀

@@ -4,8 +4,8 @@ use Prim.Native.Nat.{_-_}
 use native.Mathlib.Omega.{arith}
 use lib.ListN.{length, length-set}
 use mathlib.Core.Path.{_≡_}
-use Rattle.harness.proofs.words.read_slots.Statement.{statement}
-use Rattle.harness.proofs.words.read_slots.Tie as tie
+use Rattle.cases.proofs.words.read_slots.Statement.{statement}
+use Rattle.cases.proofs.words.read_slots.Tie as tie
 
 abbrev Inv-loop : tie.InvT-loop
 Inv-loop bytes from slots₀ at₀ i₀ slots at i = length slots ≡ length slots₀

@@ -11,8 +11,8 @@ use mir.Syntax.{w32}
 use mir.Val.{SFits}
 use mir.Facts.{toZ-ofZ}
 use Rattle.integers.specs.Parts.{zs, sub, abs-parts, one0}
-use Rattle.harness.proofs.words.unsigned.Statement.{statement}
-use Rattle.harness.proofs.words.unsigned.Tie as tie
+use Rattle.cases.proofs.words.unsigned.Statement.{statement}
+use Rattle.cases.proofs.words.unsigned.Tie as tie
 
 -- of a number below 0
 record Below (x : ℤ) : Type 0 where

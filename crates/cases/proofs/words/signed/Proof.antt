@@ -7,8 +7,8 @@ use lib.IntN.{pos, negsuc, _-ℤ_}
 use mir.Syntax.{w32}
 use mir.Val.{SFits}
 use mir.Facts.{toZ-pos}
-use Rattle.harness.proofs.words.signed.Statement.{statement}
-use Rattle.harness.proofs.words.signed.Tie as tie
+use Rattle.cases.proofs.words.signed.Statement.{statement}
+use Rattle.cases.proofs.words.signed.Tie as tie
 
 below : (n : ℕ) → n < 2 ^ 31 → SFits w32 (negsuc 0 -ℤ pos n)
 below zero h = record { sfits = lit< tt }

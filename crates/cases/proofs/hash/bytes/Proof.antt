@@ -2,8 +2,8 @@
 use borrow.Author.Needs.{needs}
 use Prim.Native.Nat.{_-_}
 use lib.ListN.{length}
-use Rattle.harness.proofs.hash.bytes.Statement.{statement}
-use Rattle.harness.proofs.hash.bytes.Tie as tie
+use Rattle.cases.proofs.hash.bytes.Statement.{statement}
+use Rattle.cases.proofs.hash.bytes.Tie as tie
 
 abbrev Inv-loop : tie.InvT-loop
 Inv-loop start area hash₀ i₀ hash i = Unit {0}

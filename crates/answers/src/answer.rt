@@ -1,7 +1,5 @@
 // The calls themselves, each with the line that it writes. The areas have just the lengths that the call is to see.
 // Scratch is never prepared: a call finds there what the one before it left, which must not change an answer.
-use super::areas::prepare_bytes;
-use super::areas::prepare_slots;
 use super::calls::Looked;
 use super::calls::Opened;
 use super::calls::Packed;
@@ -9,11 +7,13 @@ use super::calls::length;
 use super::calls::look;
 use super::calls::open;
 use super::calls::pack;
-use super::hash;
-use super::lines::line;
-use super::parse::SETTINGS_BYTES;
-use super::parse::settings;
-use super::words::read_slots;
+use cases::areas::prepare_bytes;
+use cases::areas::prepare_slots;
+use cases::hash;
+use cases::lines::line;
+use cases::parse::SETTINGS_BYTES;
+use cases::parse::settings;
+use cases::words::read_slots;
 use settings::Settings;
 use settings::refusals::number;
 use settings::refusals::value;
