@@ -14,16 +14,22 @@ use cases::lines::line;
 use cases::parse::SETTINGS_BYTES;
 use cases::parse::settings;
 use cases::words::read_slots;
+use refusals::Refusal;
+use refusals::numbers::numbered;
 use settings::Settings;
-use settings::refusals::number;
-use settings::refusals::value;
+
+// A refusal's line.
+fn refused(name: &[u8], r: Refusal, hash: u64) {
+    let told = numbered(r);
+    line(name, told.number, told.value, hash);
+}
 
 // The whole output is hashed, not only the file: what lies behind it must be as it was.
 fn run_pack(s: Settings, tables: &[i32], samples: &[i32], scratch: &mut [i32], out: &mut [u8]) {
     prepare_bytes(out);
     match pack(s, tables, samples, scratch, out) {
         Packed::Length(count) => line(b"pack", 0, count, hash::bytes(0, out)),
-        Packed::Refused(r) => line(b"pack", number(r), value(r), hash::bytes(0, out)),
+        Packed::Refused(r) => refused(b"pack", r, hash::bytes(0, out)),
     }
 }
 
@@ -31,7 +37,7 @@ fn run_pack(s: Settings, tables: &[i32], samples: &[i32], scratch: &mut [i32], o
 fn run_length(s: Settings, tables: &[i32], samples: &[i32], scratch: &mut [i32]) {
     match length(s, tables, samples, scratch) {
         Packed::Length(count) => line(b"length", 0, count, 0),
-        Packed::Refused(r) => line(b"length", number(r), value(r), 0),
+        Packed::Refused(r) => refused(b"length", r, 0),
     }
 }
 
@@ -41,7 +47,7 @@ fn run_open(file: &[u8], scratch: &mut [i32], tables: &mut [i32], image: &mut [i
     let areas = hash::slots(hash::slots(0, tables), image);
     match answer {
         Opened::Settings(s) => line(b"open", 0, 0, hash::settings(areas, s)),
-        Opened::Refused(r) => line(b"open", number(r), value(r), areas),
+        Opened::Refused(r) => refused(b"open", r, areas),
     }
 }
 
@@ -49,7 +55,7 @@ fn run_open(file: &[u8], scratch: &mut [i32], tables: &mut [i32], image: &mut [i
 fn run_look(file: &[u8]) {
     match look(file) {
         Looked::Settings(s) => line(b"look", 0, 0, hash::settings(0, s)),
-        Looked::Refused(r) => line(b"look", number(r), value(r), 0),
+        Looked::Refused(r) => refused(b"look", r, 0),
     }
 }
 

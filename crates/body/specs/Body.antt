@@ -5,9 +5,9 @@ use Prim.Native.Nat.{ℕ, suc}
 use lib.IntN.{ℤ, pos}
 use lib.ListN.{set}
 use Rattle.bitstream.specs.Stream.{Parsed, ok, short, bad}
+use Rattle.refusals.specs.declared.Refusal.the-variants.{BodyEnds, BadCodeword}
+use Rattle.refusals.specs.Reading.{Read, got, refused}
 use Rattle.settings.specs.declared.Settings.{Settings}
-use Rattle.settings.specs.declared.Refusal.the-variants.{BodyEnds, BadCodeword}
-use Rattle.settings.specs.Reading.{Read, got, refused}
 use Rattle.predictor.specs.Differences as predictor
 use Rattle.predictor.specs.Differences.{indexOf, imageOf}
 use Rattle.predictor.specs.Mapping.{unmapped}

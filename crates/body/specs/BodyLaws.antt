@@ -11,8 +11,9 @@ use lib.IntN.{ℤ, pos}
 use lib.ListN.{length, getD, set, length-set}
 use lib.Seq.{ext-getD, getD-set-same, getD-set-other}
 use Rattle.bitstream.specs.Stream.{Parsed, ok, short, bad}
+use Rattle.refusals.specs.declared.Refusal.the-variants.{BodyEnds, BadCodeword}
+use Rattle.refusals.specs.Reading.{Read, got, refused}
 use Rattle.settings.specs.declared.Settings.{Settings}
-use Rattle.settings.specs.declared.Refusal.the-variants.{BodyEnds, BadCodeword}
 use Rattle.settings.specs.Legal.{sampleCount}
 use Rattle.settings.specs.Range.{inRange}
 use Rattle.predictor.specs.Differences.{Image, indexOf, imageOf}
@@ -25,7 +26,6 @@ use Rattle.coder.specs.Statistics.{statisticsAt}
 use Rattle.coder.specs.StatisticsLaws.{statistics-same}
 use Rattle.coder.specs.Encoding.{encode, encodeAt}
 use Rattle.coder.specs.EncodingLaws.{decode-encode, encode-decode}
-use Rattle.settings.specs.Reading.{Read, got, refused}
 use Rattle.body.specs.Order.{Place, order}
 use Rattle.body.specs.OrderLaws.{All, all-map, Earlier, Inside, Fine, Sorted, Off, sorted-order, inside-order, complete}
 use Rattle.body.specs.Body.{code, codes, body, mappedOff, restored, readBody}

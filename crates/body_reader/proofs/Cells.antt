@@ -10,10 +10,10 @@ use lib.ListN.{length, getD, take, drop, set, length-take, length-drop}
 use lib.Seq.{getD-set-other}
 use borrow.Rule.Slice.PartMut.{putMid}
 use Rattle.bitstream.specs.Stream.{ok, short, bad}
+use Rattle.refusals.specs.declared.Refusal.the-variants.{BodyEnds, BadCodeword}
+use Rattle.refusals.specs.Reading.{refused}
 use Rattle.settings.specs.declared.Settings.{Settings}
-use Rattle.settings.specs.declared.Refusal.the-variants.{BodyEnds, BadCodeword}
 use Rattle.settings.specs.declared.Image as settings
-use Rattle.settings.specs.Reading.{refused}
 use Rattle.predictor.specs.Differences.{imageOf}
 use Rattle.body.specs.declared.plan.Plan.{Plan}
 use Rattle.body.specs.Order.{Place}

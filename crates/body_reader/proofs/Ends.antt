@@ -6,9 +6,9 @@ use Prim.Native.Nat.{ℕ, _*_, _≤_}
 use native.Mathlib.Omega.{arith}
 use lib.IntN.{ℤ}
 use lib.ListN.{drop}
+use Rattle.refusals.specs.Reading.{got}
 use Rattle.settings.specs.declared.Settings.{Settings}
 use Rattle.settings.specs.LegalLaws.{limited-facts}
-use Rattle.settings.specs.Reading.{got}
 use Rattle.body.specs.declared.plan.Plan.{Plan}
 use Rattle.body.specs.Order.{Place, order}
 use Rattle.body.specs.Body.{readBody}

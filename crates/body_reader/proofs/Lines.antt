@@ -6,8 +6,8 @@ use Prim.Native.Nat.{ℕ, _+_, _-_, _*_, _<_, _≤_, min}
 use native.Mathlib.Nat.{mul-add}
 use native.Mathlib.Omega.{arith}
 use lib.IntN.{ℤ}
+use Rattle.refusals.specs.declared.Refusal.{Refusal}
 use Rattle.settings.specs.declared.Settings.{Settings}
-use Rattle.settings.specs.declared.Refusal.{Refusal}
 use Rattle.settings.specs.Lists.{join}
 use Rattle.body.specs.declared.plan.Plan.{Plan}
 use Rattle.body.specs.Order.{rowOf, subFrames, frameOf}

@@ -5,10 +5,10 @@ use mathlib.Core.List.{List, _++_}
 use Prim.Native.Nat.{ℕ, _+_, _*_, _^_, _<_, _≤_}
 use lib.IntN.{ℤ}
 use lib.ListN.{length, drop}
+use Rattle.refusals.specs.declared.Refusal.{Refusal}
+use Rattle.refusals.specs.declared.Refusal.the-variants.{BodyEnds, BadCodeword}
+use Rattle.refusals.specs.Reading.{got, refused}
 use Rattle.settings.specs.declared.Settings.{Settings}
-use Rattle.settings.specs.declared.Refusal.{Refusal}
-use Rattle.settings.specs.declared.Refusal.the-variants.{BodyEnds, BadCodeword}
-use Rattle.settings.specs.Reading.{got, refused}
 use Rattle.settings.specs.Tables.{scratchStride}
 use Rattle.predictor.specs.Differences.{Image, imageOf}
 use Rattle.body.specs.declared.plan.Plan.{Plan}

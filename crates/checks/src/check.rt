@@ -1,8 +1,8 @@
 // The writer's tests in document 01's order: the first that fails decides.
 use super::range::first_out;
 use super::tables::tables_legal;
-use settings::Checked;
-use settings::Refusal;
+use refusals::Checked;
+use refusals::Refusal;
 use settings::Settings;
 use settings::legal::limited;
 use settings::legal::sample_count;

@@ -10,16 +10,18 @@ use lib.Seq.{take-at, drop-at}
 use lib.Dec.{ltb}
 use borrow.Author.Tests.{le-ltb, lt-ltb}
 use Rattle.bitstream.specs.Stream.{unpack}
+use Rattle.refusals.specs.declared.Refusal.{Refusal}
+use Rattle.refusals.specs.declared.Refusal.the-variants.{WrongCount, ShortArea, BodyEnds, BadCodeword, AfterEnd}
+use Rattle.refusals.specs.Refusals.{clears}
+use Rattle.refusals.specs.Tests.{firstHit}
+use Rattle.refusals.specs.Reading.{Read, got, refused, andThen}
+use Rattle.refusals.specs.ReadingLaws.{passes, no-test}
 use Rattle.settings.specs.declared.Settings.{Settings}
-use Rattle.settings.specs.declared.Refusal.{Refusal}
-use Rattle.settings.specs.declared.Refusal.the-variants.{WrongCount, ShortArea, BodyEnds, BadCodeword, AfterEnd}
 use Rattle.settings.specs.Legal.{sampleCount, settingsLegal, limited}
 use Rattle.settings.specs.LegalLaws.{legal-settings, limited-facts, count-fits}
 use Rattle.settings.specs.Tables.{stride, tablesLegal}
-use Rattle.settings.specs.Checks.{firstHit, areasShort}
+use Rattle.settings.specs.Checks.{areasShort}
 use Rattle.settings.specs.CheckLaws.{Roomy, roomy-of}
-use Rattle.settings.specs.Reading.{Read, got, refused, andThen}
-use Rattle.settings.specs.ReadingLaws.{passes, no-test}
 use Rattle.header.specs.Read.{Header, readHeader}
 use Rattle.header.specs.HeaderLaws.{HeaderIs, read-header}
 use Rattle.header_reader.specs.Answers.{Begins}
@@ -42,7 +44,7 @@ use Rattle.cube.specs.Ending.{ended, at-end-is}
 use Rattle.cube.specs.Opening.{endAnswer, answerOf, isRefused, Reached, Lendable}
 use Rattle.body_reader.specs.declared.Gone.{Gone}
 use Rattle.body_reader.specs.declared.Gone.the-variants as gone
-use Rattle.cube.specs.Areas.{clears, openAnswer, imageAfter, tablesAfter, lentOf, Opens}
+use Rattle.cube.specs.Areas.{openAnswer, imageAfter, tablesAfter, lentOf, Opens}
 use Rattle.cube.specs.ValueLaws.{header-keeps}
 use Rattle.cube.specs.FileLaws.{zeros-good, deep}
 use Rattle.cube.specs.SizeLaws.{header-small, codes-small}

@@ -7,16 +7,18 @@ use native.Mathlib.Omega.{arith}
 use lib.IntN.{ℤ}
 use lib.ListN.{length, drop, replicate}
 use borrow.Author.Tests.{lt-ltb, le-ltb}
+use Rattle.refusals.specs.declared.Refusal.{Refusal}
+use Rattle.refusals.specs.declared.Refusal.the-variants.{NoRoom}
+use Rattle.refusals.specs.declared.Checked.the-variants as checking
+use Rattle.refusals.specs.Refusals.{clears}
+use Rattle.refusals.specs.Tests.{Test, firstHit}
 use Rattle.settings.specs.declared.Settings.{Settings}
-use Rattle.settings.specs.declared.Refusal.{Refusal}
-use Rattle.settings.specs.declared.Refusal.the-variants.{NoRoom}
-use Rattle.settings.specs.declared.Checked.the-variants as checking
-use Rattle.settings.specs.Checks.{Test, firstHit, checkPack}
+use Rattle.settings.specs.Checks.{checkPack}
 use Rattle.settings.specs.CheckLaws.{Fine}
 use Rattle.cube.specs.declared.Packed.{Packed}
 use Rattle.cube.specs.declared.Packed.the-variants as packing
 use Rattle.cube.specs.File.{file, lengthAnswer, packed}
-use Rattle.cube.specs.Areas.{clears, outAfter, Packs}
+use Rattle.cube.specs.Areas.{outAfter, Packs}
 use Rattle.cube.specs.Writing.{Written}
 use Rattle.cube.specs.Demands.{length-fine}
 

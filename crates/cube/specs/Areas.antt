@@ -1,35 +1,20 @@
 -- What the public calls answer, and what each lent area holds afterwards (document 01, "When the recorder says no").
 use mathlib.Core.Path.{_≡_}
-use mathlib.Core.Bool.{Bool, true, false, cond}
+use mathlib.Core.Bool.{cond}
 use mathlib.Core.List.{List, _++_}
 use Prim.Native.Nat.{ℕ}
 use lib.IntN.{ℤ, pos}
 use lib.ListN.{length, drop, replicate}
+use Rattle.refusals.specs.declared.Refusal.{Refusal}
+use Rattle.refusals.specs.Refusals.{clears}
+use Rattle.refusals.specs.Reading.{Read, got, refused}
 use Rattle.settings.specs.declared.Settings.{Settings}
-use Rattle.settings.specs.declared.Refusal.{Refusal}
-use Rattle.settings.specs.declared.Refusal.the-variants.{IllegalSetting, SampleOutOfRange, WrongCount, HouseLimit, ShortArea, NoRoom, EndsInHeader, IllegalField, BodyEnds, BadCodeword, AfterEnd, BlockCoder}
-use Rattle.settings.specs.Reading.{Read, got, refused}
 use Rattle.cube.specs.declared.Packed.{Packed}
 use Rattle.cube.specs.declared.Packed.the-variants as packing
 use Rattle.cube.specs.declared.Opened.{Opened}
 use Rattle.cube.specs.declared.Opened.the-variants as opening
 use Rattle.cube.specs.File.{file, packed}
 use Rattle.cube.specs.Open.{Cube, Lent, opened}
-
--- the refusals that leave the lent areas zero, whole: 6 the output, 9 to 11 the image and table areas
-unfoldable pub clears : Refusal → Bool
-clears IllegalSetting = false
-clears (SampleOutOfRange index) = false
-clears WrongCount = false
-clears HouseLimit = false
-clears ShortArea = false
-clears (NoRoom length) = true
-clears EndsInHeader = false
-clears IllegalField = false
-clears (BodyEnds rank) = true
-clears (BadCodeword rank) = true
-clears (AfterEnd count) = true
-clears BlockCoder = false
 
 -- an area that held l: what is done from its start on, and the rest as it was
 abbrev pub filledFrom : {A : Type 0} → List A → List A → List A

@@ -12,20 +12,21 @@ use lib.Seq.{take-at, drop-at}
 use lib.Dec.{eqb, ltb}
 use borrow.Author.Tests.{lt-ltb, le-ltb, ltb-false}
 use Rattle.bitstream.specs.Stream.{Bytes}
+use Rattle.refusals.specs.declared.Refusal.{Refusal}
+use Rattle.refusals.specs.declared.Refusal.the-variants.{NoRoom}
+use Rattle.refusals.specs.declared.Checked.{Checked}
+use Rattle.refusals.specs.declared.Checked.the-variants as checking
+use Rattle.refusals.specs.Refusals.{number, clears}
+use Rattle.refusals.specs.RefusalLaws as table
+use Rattle.refusals.specs.Reading.{Read, got, refused}
 use Rattle.settings.specs.declared.Settings.{Settings}
-use Rattle.settings.specs.declared.Refusal.{Refusal}
-use Rattle.settings.specs.declared.Refusal.the-variants.{IllegalSetting, SampleOutOfRange, WrongCount, HouseLimit, ShortArea, NoRoom, EndsInHeader, IllegalField, BodyEnds, BadCodeword, AfterEnd, BlockCoder}
-use Rattle.settings.specs.declared.Checked.{Checked}
-use Rattle.settings.specs.declared.Checked.the-variants as checking
 use Rattle.settings.specs.Legal.{settingsLegal, limited, sampleCount}
 use Rattle.settings.specs.LegalLaws.{legal-settings}
 use Rattle.settings.specs.Range.{inRange}
 use Rattle.settings.specs.RangeLaws.{zero-in-range, all-in-range, first-out-of-all}
 use Rattle.settings.specs.Tables.{stride, scratchStride, tablesLegal}
-use Rattle.settings.specs.Refusals.{number}
 use Rattle.settings.specs.Checks.{checkPack}
 use Rattle.settings.specs.CheckLaws.{Fine, fine, fine-passes}
-use Rattle.settings.specs.Reading.{Read, got, refused}
 use Rattle.header.specs.Tables.{usedTables}
 use Rattle.header.specs.Write.{usedSettings}
 use Rattle.body.specs.BodyLaws.{Good}
@@ -35,7 +36,7 @@ use Rattle.cube.specs.declared.Opened.{Opened}
 use Rattle.cube.specs.declared.Opened.the-variants as opening
 use Rattle.cube.specs.File.{file, lengthAnswer, packed}
 use Rattle.cube.specs.Open.{Cube, Lent, opened}
-use Rattle.cube.specs.Areas.{clears, filledFrom, afterRefusal, outAfter, openAnswer, imageAfter, tablesAfter, lentOf, Packs, Opens}
+use Rattle.cube.specs.Areas.{filledFrom, afterRefusal, outAfter, openAnswer, imageAfter, tablesAfter, lentOf, Packs, Opens}
 use Rattle.cube.specs.FileLaws.{Enough, opened-file, file-opened}
 
 -- ---- demand 1: one answer, from a closed list, and no half of anything
@@ -52,21 +53,9 @@ pub opens-one-way : {bytes : List ℕ} {scratch tables image : List ℤ} {r r′
     → Opens bytes scratch tables image r t i → Opens bytes scratch tables image r′ t′ i′ → (r ≡ r′) × (t ≡ t′) × (i ≡ i′)
 opens-one-way p q = (p .answer ∙ sym (q .answer), p .table-area ∙ sym (q .table-area), p .image-area ∙ sym (q .image-area))
 
--- twelve refusals, and those that clear are 6, 9, 10 and 11
-pub refusals-closed : (w : Refusal) → (1 ≤ number w) × (number w ≤ 12) × (clears w ≡ (eqb (number w) 6 || eqb (number w) 9 || eqb (number w) 10 || eqb (number w) 11))
-unfolding number clears
-refusals-closed IllegalSetting = (omega arith, omega arith, refl)
-refusals-closed (SampleOutOfRange index) = (omega arith, omega arith, refl)
-refusals-closed WrongCount = (omega arith, omega arith, refl)
-refusals-closed HouseLimit = (omega arith, omega arith, refl)
-refusals-closed ShortArea = (omega arith, omega arith, refl)
-refusals-closed (NoRoom length) = (omega arith, omega arith, refl)
-refusals-closed EndsInHeader = (omega arith, omega arith, refl)
-refusals-closed IllegalField = (omega arith, omega arith, refl)
-refusals-closed (BodyEnds rank) = (omega arith, omega arith, refl)
-refusals-closed (BadCodeword rank) = (omega arith, omega arith, refl)
-refusals-closed (AfterEnd count) = (omega arith, omega arith, refl)
-refusals-closed BlockCoder = (omega arith, omega arith, refl)
+-- eighteen refusals, and those that clear are 6, 9, 10 and 11
+pub refusals-closed : (w : Refusal) → (1 ≤ number w) × (number w ≤ 18) × (clears w ≡ (eqb (number w) 6 || eqb (number w) 9 || eqb (number w) 10 || eqb (number w) 11))
+refusals-closed = table.refusals-closed
 
 -- after a refusal each area is zero or as it was
 pub pack-refused : {S : Settings} {tables samples scratch : List ℤ} {out : List ℕ} {r : Packed} {o : List ℕ} (w : Refusal)

@@ -7,10 +7,10 @@ use lib.IntN.{ℤ}
 use lib.ListN.{length}
 use lib.Dec.{ltb}
 use Rattle.bitstream.specs.Stream.{zeros, filling}
-use Rattle.settings.specs.declared.Refusal.the-variants.{BodyEnds, AfterEnd}
+use Rattle.refusals.specs.declared.Refusal.the-variants.{BodyEnds, AfterEnd}
+use Rattle.refusals.specs.Tests.{Test, _⇒_, firstHit}
+use Rattle.refusals.specs.Reading.{Read, got, refused, unless}
 use Rattle.settings.specs.Legal.{sampleCount}
-use Rattle.settings.specs.Checks.{Test, _⇒_, firstHit}
-use Rattle.settings.specs.Reading.{Read, got, refused, unless}
 use Rattle.header.specs.Fields.{same}
 use Rattle.header.specs.Read.{Header}
 use Rattle.cube.specs.Open.{Cube, atEnd}

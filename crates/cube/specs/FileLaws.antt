@@ -10,24 +10,25 @@ use lib.Dec.{ltb}
 use borrow.Author.Tests.{le-ltb, not-false}
 use Rattle.bitstream.specs.Stream.{Bytes, pack, unpack, zeros, filling, filled}
 use Rattle.bitstream.specs.Laws.{unpack-pack, pack-unpack, filled-whole, whole-bytes}
+use Rattle.refusals.specs.declared.Refusal.{Refusal}
+use Rattle.refusals.specs.declared.Refusal.the-variants.{WrongCount, ShortArea, BodyEnds, AfterEnd}
+use Rattle.refusals.specs.Tests.{Test, _⇒_, firstHit}
+use Rattle.refusals.specs.Reading.{Read, got, refused, andThen, unless}
+use Rattle.refusals.specs.ReadingLaws.{passes, no-test, passed, sequenced}
 use Rattle.settings.specs.declared.Settings.{Settings}
-use Rattle.settings.specs.declared.Refusal.{Refusal}
-use Rattle.settings.specs.declared.Refusal.the-variants.{WrongCount, ShortArea, BodyEnds, AfterEnd}
 use Rattle.settings.specs.Legal.{sampleCount, settingsLegal, limited}
 use Rattle.settings.specs.LegalLaws.{LegalSettings, legal-settings}
 use Rattle.settings.specs.Range.{lowest, highest, inRange}
 use Rattle.settings.specs.RangeLaws.{zero-in-range}
 use Rattle.settings.specs.Tables.{stride, scratchStride, entry, tablesLegal}
 use Rattle.settings.specs.TableLaws.{components-fit}
-use Rattle.settings.specs.Checks.{Test, _⇒_, firstHit, areasShort}
+use Rattle.settings.specs.Checks.{areasShort}
 use Rattle.header.specs.Fields.{same}
 use Rattle.header.specs.FieldLaws.{same-refl, same-true}
 use Rattle.header.specs.Parts.{usedImage}
 use Rattle.header.specs.Tables.{used, usedTables}
 use Rattle.header.specs.Write.{header, usedSettings}
 use Rattle.settings.specs.CheckLaws.{Roomy, roomy-of, none-of}
-use Rattle.settings.specs.Reading.{Read, got, refused, andThen, unless}
-use Rattle.settings.specs.ReadingLaws.{passes, no-test, passed, sequenced}
 use Rattle.header.specs.Read.{Header, readHeader}
 use Rattle.header.specs.TableLaws.{entry-slots}
 use Rattle.header.specs.HeaderLaws.{header-read, read-header, header-used, used-legal}

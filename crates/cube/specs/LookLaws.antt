@@ -3,9 +3,9 @@ use mathlib.Core.Path.{_≡_, sym, ap, _∙_}
 use mathlib.Core.List.{List}
 use Prim.Native.Nat.{ℕ}
 use Rattle.bitstream.specs.Stream.{unpack}
+use Rattle.refusals.specs.declared.Refusal.{Refusal}
+use Rattle.refusals.specs.Reading.{Read, refused}
 use Rattle.settings.specs.declared.Settings.{Settings}
-use Rattle.settings.specs.declared.Refusal.{Refusal}
-use Rattle.settings.specs.Reading.{Read, refused}
 use Rattle.header.specs.Read.{Header, readHeader}
 use Rattle.header_reader.specs.Answers.{answered, Begins}
 use Rattle.cube.specs.declared.look.Looked.{Looked}

@@ -6,12 +6,13 @@ use lib.IntN.{ℤ, pos}
 use lib.ListN.{length, replicate}
 use lib.Dec.{ltb}
 use Rattle.bitstream.specs.Stream.{unpack, zeros, filling}
+use Rattle.refusals.specs.declared.Refusal.the-variants.{WrongCount, ShortArea, BodyEnds, AfterEnd}
+use Rattle.refusals.specs.Tests.{Test, _⇒_, firstHit}
+use Rattle.refusals.specs.Reading.{Read, got, andThen, unless}
 use Rattle.settings.specs.declared.Settings.{Settings}
-use Rattle.settings.specs.declared.Refusal.the-variants.{WrongCount, ShortArea, BodyEnds, AfterEnd}
 use Rattle.settings.specs.Legal.{sampleCount}
-use Rattle.settings.specs.Checks.{Test, _⇒_, firstHit, areasShort}
+use Rattle.settings.specs.Checks.{areasShort}
 use Rattle.header.specs.Fields.{same}
-use Rattle.settings.specs.Reading.{Read, got, andThen, unless}
 use Rattle.header.specs.Read.{Header, readHeader}
 use Rattle.body.specs.Order.{order}
 use Rattle.body.specs.Body.{readBody}

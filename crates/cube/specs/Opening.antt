@@ -5,8 +5,8 @@ use mathlib.Core.List.{List}
 use Prim.Native.Nat.{ℕ, _*_, _^_, _≤_}
 use lib.IntN.{ℤ}
 use lib.ListN.{length, drop}
+use Rattle.refusals.specs.declared.Refusal.the-variants.{BodyEnds, BadCodeword, AfterEnd}
 use Rattle.settings.specs.declared.Settings.{Settings}
-use Rattle.settings.specs.declared.Refusal.the-variants.{BodyEnds, BadCodeword, AfterEnd}
 use Rattle.settings.specs.Legal.{sampleCount, settingsLegal, limited}
 use Rattle.settings.specs.CheckLaws.{Roomy}
 use Rattle.header_reader.specs.Answers.{Begins}

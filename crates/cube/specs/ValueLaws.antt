@@ -8,26 +8,25 @@ use native.Mathlib.Omega.{arith}
 use lib.IntN.{ℤ, pos}
 use lib.ListN.{length, replicate}
 use Rattle.bitstream.specs.Stream.{Parsed, ok, short, bad, unpack}
+use Rattle.refusals.specs.declared.Refusal.{Refusal}
+use Rattle.refusals.specs.declared.Refusal.the-variants.{EndsInHeader, IllegalField, HouseLimit, BlockCoder, BodyEnds, BadCodeword}
+use Rattle.refusals.specs.declared.Checked.{Checked}
+use Rattle.refusals.specs.declared.Checked.the-variants.{Passed, Refused}
+use Rattle.refusals.specs.Refusals.{value, clears}
+use Rattle.refusals.specs.Tests.{Test, _⇒_, firstHit}
+use Rattle.refusals.specs.Reading.{Read, got, refused, andThen, unless}
 use Rattle.settings.specs.declared.Image.{Image}
 use Rattle.settings.specs.declared.Predictor.{Predictor}
 use Rattle.settings.specs.declared.Coder.{Coder}
 use Rattle.settings.specs.declared.Settings.{Settings}
-use Rattle.settings.specs.declared.Refusal.{Refusal}
-use Rattle.settings.specs.declared.Refusal.the-variants.{EndsInHeader, IllegalField, HouseLimit, BlockCoder, BodyEnds, BadCodeword}
-use Rattle.settings.specs.declared.Checked.{Checked}
-use Rattle.settings.specs.declared.Checked.the-variants.{Passed, Refused}
 use Rattle.settings.specs.Legal.{sampleCount, mostSamples}
 use Rattle.settings.specs.LegalLaws.{legal-settings, limited-facts}
-use Rattle.settings.specs.Refusals.{value}
-use Rattle.settings.specs.Checks.{Test, _⇒_, firstHit}
-use Rattle.settings.specs.Reading.{Read, got, refused, andThen, unless}
 use Rattle.predictor.specs.Differences.{imageOf}
 use Rattle.header.specs.Read.{readImage, readPredictor, readCoder, readTable, readWeights, readAccumulators, Header, readHeader}
 use Rattle.header.specs.HeaderLaws.{read-header}
 use Rattle.body.specs.Order.{Place, order}
 use Rattle.body.specs.OrderLaws.{length-order}
 use Rattle.body.specs.Body.{mappedOff, restored, readBody}
-use Rattle.cube.specs.Areas.{clears}
 use Rattle.cube.specs.Open.{Cube, Lent, atEnd, behindHeader, openedBits, opened}
 
 -- Q holds of a refusal there

@@ -3,7 +3,7 @@ pub mod look;
 pub mod open;
 pub mod pack;
 
-use settings::Refusal;
+use refusals::Refusal;
 use settings::Settings;
 
 // What pack and length answer: the file's length in bytes, or a refusal.

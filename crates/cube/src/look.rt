@@ -3,7 +3,7 @@ ghost use mathlib.Core.Path.{_≡_};
 ghost use Rattle.cube.specs.Look.{looked};
 use header_reader::read::HeaderRead;
 use header_reader::read::read_header;
-use settings::Refusal;
+use refusals::Refusal;
 use settings::Settings;
 
 // What the look answers.

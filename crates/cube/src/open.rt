@@ -10,7 +10,7 @@ use closing::ending::end_of;
 use header_reader::read::HeaderRead;
 use header_reader::read::read_header;
 use header_values::store::store_tables;
-use settings::Refusal;
+use refusals::Refusal;
 use settings::Settings;
 use settings::legal::sample_count;
 use settings::tables::STRIDE;

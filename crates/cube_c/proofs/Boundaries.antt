@@ -8,21 +8,21 @@ use lib.IntN.{ℤ, pos}
 use lib.ListN.{length}
 use lib.Dec.{ltb}
 use Rattle.bitstream.specs.Stream.{unpack}
+use Rattle.refusals.specs.declared.Refusal.{Refusal}
+use Rattle.refusals.specs.declared.Refusal.the-variants.{IllegalSetting, WrongCount}
+use Rattle.refusals.specs.declared.Checked.{Checked}
+use Rattle.refusals.specs.declared.Checked.the-variants as checking
+use Rattle.refusals.specs.Refusals.{value, clears}
+use Rattle.refusals.specs.Tests.{firstHit}
+use Rattle.refusals.specs.Reading.{Read, refused}
 use Rattle.settings.specs.declared.Settings.{Settings}
-use Rattle.settings.specs.declared.Refusal.{Refusal}
-use Rattle.settings.specs.declared.Refusal.the-variants.{IllegalSetting, WrongCount}
-use Rattle.settings.specs.declared.Checked.{Checked}
-use Rattle.settings.specs.declared.Checked.the-variants as checking
-use Rattle.settings.specs.Refusals.{value}
-use Rattle.settings.specs.Checks.{firstHit}
-use Rattle.settings.specs.Reading.{Read, refused}
 use Rattle.header.specs.Read.{readHeader}
 use Rattle.cube.specs.declared.Packed.{Packed}
 use Rattle.cube.specs.declared.Packed.the-variants as packing
 use Rattle.cube.specs.declared.Opened.{Opened}
 use Rattle.cube.specs.File.{lengthAnswer, packed}
 use Rattle.cube.specs.Open.{Cube, opened}
-use Rattle.cube.specs.Areas.{clears, outAfter, openAnswer, imageAfter, tablesAfter, lentOf, Packs, Opens}
+use Rattle.cube.specs.Areas.{outAfter, openAnswer, imageAfter, tablesAfter, lentOf, Packs, Opens}
 use Rattle.settings_slots.specs.Slots.{slotCount, holds, settingsFrom, slotsChecked}
 use Rattle.cube_c.specs.Answer.{valueLimit, refusalWord, packedValue, packedWord, openedValue, openedWord, lookedValue, lookedWord}
 use Rattle.cube_c.specs.Boundary.{boundaryLength, boundaryPacked, boundaryOpened, lookAnswer, boundaryLooked, slotsAfter, CPacks, CLengths, COpens, CLooks}

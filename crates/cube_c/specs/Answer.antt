@@ -1,9 +1,9 @@
 -- Answers in one word: number · 2^56 + value. Number 0 is success; any other is document 01's refusal.
 use Prim.Native.Nat.{ℕ, _+_, _*_, _^_}
+use Rattle.refusals.specs.declared.Refusal.{Refusal}
+use Rattle.refusals.specs.Refusals.{number, value}
 use Rattle.settings.specs.declared.Settings.{Settings}
-use Rattle.settings.specs.declared.Refusal.{Refusal}
 use Rattle.settings.specs.Legal.{sampleCount}
-use Rattle.settings.specs.Refusals.{number, value}
 use Rattle.cube.specs.declared.Packed.{Packed}
 use Rattle.cube.specs.declared.Packed.the-variants as packing
 use Rattle.cube.specs.declared.Opened.{Opened}

@@ -5,11 +5,11 @@ use Prim.Native.Nat.{ℕ}
 use lib.IntN.{ℤ}
 use lib.ListN.{length, drop}
 use Rattle.bitstream.specs.Stream.{unpack}
+use Rattle.refusals.specs.declared.Checked.{Checked}
+use Rattle.refusals.specs.declared.Checked.the-variants as checking
+use Rattle.refusals.specs.Tests.{firstHit}
+use Rattle.refusals.specs.Reading.{Read, got, refused, unless}
 use Rattle.settings.specs.declared.Settings.{Settings}
-use Rattle.settings.specs.declared.Checked.{Checked}
-use Rattle.settings.specs.declared.Checked.the-variants as checking
-use Rattle.settings.specs.Checks.{firstHit}
-use Rattle.settings.specs.Reading.{Read, got, refused, unless}
 use Rattle.header.specs.Read.{Header, readHeader}
 use Rattle.cube.specs.declared.Packed.{Packed}
 use Rattle.cube.specs.declared.Packed.the-variants as packing

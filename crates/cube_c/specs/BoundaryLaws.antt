@@ -10,19 +10,21 @@ use lib.ListN.{length, replicate}
 use lib.Dec.{ltb, eqb}
 use borrow.Author.Tests.{not-false, ltb-true, ltb-false, lt-ltb, le-ltb, eqb-true}
 use Rattle.bitstream.specs.Stream.{unpack}
+use Rattle.refusals.specs.declared.Refusal.{Refusal}
+use Rattle.refusals.specs.declared.Refusal.the-variants.{WrongCount, NoRoom}
+use Rattle.refusals.specs.declared.Checked.{Checked}
+use Rattle.refusals.specs.declared.Checked.the-variants as checking
+use Rattle.refusals.specs.Refusals.{value}
+use Rattle.refusals.specs.Tests.{Test, firstHit}
+use Rattle.refusals.specs.TestLaws.{passes-all}
+use Rattle.refusals.specs.Reading.{Read, got, refused}
+use Rattle.refusals.specs.ReadingLaws.{sequenced, passed, no-test}
 use Rattle.settings.specs.declared.Settings.{Settings}
-use Rattle.settings.specs.declared.Refusal.{Refusal}
-use Rattle.settings.specs.declared.Refusal.the-variants.{WrongCount, NoRoom}
-use Rattle.settings.specs.declared.Checked.{Checked}
-use Rattle.settings.specs.declared.Checked.the-variants as checking
 use Rattle.settings.specs.Legal.{settingsLegal, limited, sampleCount, mostSamples}
 use Rattle.settings.specs.LegalLaws.{limited-facts}
 use Rattle.settings.specs.Range.{firstOut}
-use Rattle.settings.specs.Refusals.{value}
-use Rattle.settings.specs.Checks.{Test, firstHit, checkPack}
-use Rattle.settings.specs.CheckLaws.{fine, passes-all}
-use Rattle.settings.specs.Reading.{Read, got, refused}
-use Rattle.settings.specs.ReadingLaws.{sequenced, passed, no-test}
+use Rattle.settings.specs.Checks.{checkPack}
+use Rattle.settings.specs.CheckLaws.{fine}
 use Rattle.header.specs.Read.{Header, readHeader}
 use Rattle.header_reader.specs.Answers.{answered}
 use Rattle.header.specs.Write.{usedSettings}

@@ -2,33 +2,34 @@
 use cube::Opened;
 use cube::Packed;
 use cube::look::Looked;
-use settings::Refusal;
+use refusals::Refusal;
+use refusals::numbers::numbered;
 use settings::legal::sample_count;
-use settings::refusals::number;
-use settings::refusals::value;
 use settings_slots::slots::put_settings;
 ghost use mathlib.Core.Path.{_≡_};
 ghost use Prim.Native.Nat.{_≤_, _<_, _^_};
 ghost use lib.ListN.{length};
-ghost use Rattle.settings.specs.Refusals.{value};
+ghost use Rattle.refusals.specs.Refusals.{value};
 ghost use Rattle.settings_slots.specs.Slots.{slotCount};
 ghost use Rattle.cube_c.specs.Answer.{valueLimit, wordOf, refusalWord, packedValue, packedWord, openedValue, openedWord, lookedValue, lookedWord, openedOf};
 ghost use Rattle.cube_c.specs.Boundary.{Storable, slotsAfter};
 
-// A number from 0 to 12 with a value below it in the word.
+// A number of eight bits with a value below it in the word.
 pub fn word(number: u64, value: u64) -> u64
-    requires { ⌜ number ≤ 12 ⌝ }
+    requires { ⌜ number < 256 ⌝ }
     requires { ⌜ value < valueLimit ⌝ }
     ensures { λ r. ⌜ r ≡ wordOf number value ⌝ }
 {
     number * 72057594037927936 + value
 }
 
+// The word of a refusal.
 pub fn refusal_word(w: Refusal) -> u64
     requires { ⌜ value w < valueLimit ⌝ }
     ensures { λ r. ⌜ r ≡ refusalWord w ⌝ }
 {
-    word(number(w), value(w))
+    let told = numbered(w);
+    word(told.number, told.value)
 }
 
 // Success is the file's length.

@@ -8,6 +8,7 @@ use lib.IntN.{ℤ}
 use lib.ListN.{length, length-append}
 use Rattle.bitstream.specs.Stream.{bits, filled}
 use Rattle.bitstream.specs.Laws.{filled-whole, absurd-path}
+use Rattle.refusals.specs.Reading.{Read, got, refused, andThen}
 use Rattle.settings.specs.declared.Image.{Image}
 use Rattle.settings.specs.declared.Predictor.{Predictor}
 use Rattle.settings.specs.declared.Coder.{Coder}
@@ -22,7 +23,6 @@ use Rattle.header.specs.Fields.{fields}
 use Rattle.header.specs.Parts.{imageFields, predictorFields, coderFields, usedImage, usedPredictor, usedCoder}
 use Rattle.header.specs.Tables.{twos, weightTable, accumulatorTable, componentsBefore, used, slots, usedTables, tablesOf}
 use Rattle.header.specs.Write.{weightPart, accumulatorPart, header, usedSettings}
-use Rattle.settings.specs.Reading.{Read, got, refused, andThen}
 use Rattle.header.specs.Read.{readImage, readPredictor, readWeights, readCoder, readAccumulators, Header, readHeader}
 use Rattle.header.specs.PartLaws.{length-image, length-predictor, length-coder, not-or-unused, image-written, predictor-written, coder-written, image-legal-used, predictor-legal-used, coder-legal-used}
 use Rattle.header.specs.TableLaws.{tables-read, weights-written, accumulators-written, tables-of-legal, tables-of-used, length-tables-of, weights-used, accumulators-used, entries-kept-legal}

@@ -11,15 +11,17 @@ use lib.ListN.{length, take, drop, length-append, length-replicate, take-append-
 use lib.Seq.{take-at, drop-at, length-take-le}
 use Rattle.bitstream.specs.Stream.{filling, filled}
 use Rattle.bitstream.specs.Laws.{absurd-path}
+use Rattle.refusals.specs.declared.Refusal.{Refusal}
+use Rattle.refusals.specs.declared.Refusal.the-variants.{EndsInHeader, IllegalField, HouseLimit, BlockCoder}
+use Rattle.refusals.specs.declared.Checked.{Checked}
+use Rattle.refusals.specs.declared.Checked.the-variants.{Passed, Refused}
+use Rattle.refusals.specs.Tests.{Test, _⇒_, firstHit}
+use Rattle.refusals.specs.Reading.{Read, got, unless}
+use Rattle.refusals.specs.ReadingLaws.{passed}
 use Rattle.settings.specs.declared.Image.{Image}
 use Rattle.settings.specs.declared.Predictor.{Predictor}
 use Rattle.settings.specs.declared.Coder.{Coder}
 use Rattle.settings.specs.declared.Settings.{Settings}
-use Rattle.settings.specs.declared.Refusal.{Refusal}
-use Rattle.settings.specs.declared.Refusal.the-variants.{EndsInHeader, IllegalField, HouseLimit, BlockCoder}
-use Rattle.settings.specs.declared.Checked.{Checked}
-use Rattle.settings.specs.declared.Checked.the-variants.{Passed, Refused}
-use Rattle.settings.specs.Checks.{Test, _⇒_, firstHit}
 use Rattle.settings.specs.Legal.{imageLegal, predictorLegal, coderLegal, limited}
 use Rattle.settings.specs.LegalLaws.{legal-image, legal-predictor, legal-coder}
 use Rattle.settings.specs.Tables.{accumulatorSlot, entry, backward, componentCount, every}
@@ -28,8 +30,6 @@ use Rattle.header.specs.Fields.{fields, split, same}
 use Rattle.header.specs.Parts.{imageFields, imageWidths, imageOf, coderType, predictorFields, predictorWidths, predictorOf, coderFields, coderWidths, coderOf, usedImage, usedPredictor, usedCoder}
 use Rattle.header.specs.Tables.{weightTable, accumulatorTable, componentsBefore, numberAt}
 use Rattle.header.specs.Write.{weightPart, accumulatorPart}
-use Rattle.settings.specs.Reading.{Read, got, unless}
-use Rattle.settings.specs.ReadingLaws.{passed}
 use Rattle.header.specs.Read.{present, readImage, readPredictor, readCoder, readTable, readWeights, readAccumulators}
 use Rattle.header.specs.FieldLaws.{same-true, same-refl, split-lt}
 use Rattle.header.specs.PartLaws.{length-image, length-predictor, length-coder, image-back, coder-type-back, predictor-back, coder-back, image-written, predictor-written, coder-written, image-legal-used, limited-used, predictor-legal-used, coder-legal-used, image-named, predictor-named, coder-named}

@@ -10,17 +10,17 @@ use lib.Dec.{ltb, eqb}
 use lib.ListN.{length, drop, getD, length-drop}
 use Rattle.bitstream.specs.Stream.{unpack}
 use Rattle.bitstream.specs.Laws.{length-unpack, absurd-path}
+use Rattle.refusals.specs.declared.Refusal.{Refusal}
+use Rattle.refusals.specs.declared.Refusal.the-variants.{EndsInHeader, IllegalField, HouseLimit, BlockCoder}
+use Rattle.refusals.specs.declared.Checked.{Checked}
+use Rattle.refusals.specs.declared.Checked.the-variants.{Passed, Refused}
+use Rattle.refusals.specs.Tests.{Test, _⇒_, firstHit}
+use Rattle.refusals.specs.Reading.{Read, got, refused, unless}
+use Rattle.refusals.specs.ReadingLaws.{no-test}
 use Rattle.settings.specs.declared.Image.{Image}
 use Rattle.settings.specs.declared.Predictor.{Predictor}
 use Rattle.settings.specs.declared.Coder.{Coder}
-use Rattle.settings.specs.declared.Refusal.{Refusal}
-use Rattle.settings.specs.declared.Refusal.the-variants.{EndsInHeader, IllegalField, HouseLimit, BlockCoder}
-use Rattle.settings.specs.declared.Checked.{Checked}
-use Rattle.settings.specs.declared.Checked.the-variants.{Passed, Refused}
-use Rattle.settings.specs.Checks.{Test, _⇒_, firstHit}
 use Rattle.settings.specs.Legal.{imageLegal, predictorLegal, coderLegal, limited}
-use Rattle.settings.specs.Reading.{Read, got, refused, unless}
-use Rattle.settings.specs.ReadingLaws.{no-test}
 use Rattle.header.specs.Fields.{split}
 use Rattle.header.specs.Parts.{imageWidths, imageOf, predictorWidths, predictorOf, coderWidths, coderOf}
 use Rattle.header.specs.Plain.{imagePlain, predictorPlain, coderPlain}

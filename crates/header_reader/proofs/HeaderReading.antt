@@ -6,13 +6,13 @@ use Prim.Native.Nat.{ℕ, _+_}
 use lib.ListN.{drop}
 use Rattle.bitstream.specs.Stream.{filled}
 use Rattle.bitstream.specs.Laws.{absurd-path}
+use Rattle.refusals.specs.declared.Refusal.{Refusal}
+use Rattle.refusals.specs.declared.Checked.the-variants as checked
+use Rattle.refusals.specs.Reading.{Read, got, refused}
 use Rattle.settings.specs.declared.Image.{Image}
 use Rattle.settings.specs.declared.Predictor.{Predictor}
 use Rattle.settings.specs.declared.Coder.{Coder}
 use Rattle.settings.specs.declared.Settings.{Settings}
-use Rattle.settings.specs.declared.Refusal.{Refusal}
-use Rattle.settings.specs.declared.Checked.the-variants as checked
-use Rattle.settings.specs.Reading.{Read, got, refused}
 use Rattle.header_reader.specs.declared.read.ImageRead.the-variants as image
 use Rattle.header_reader.specs.declared.read.PredictorRead.the-variants as predictor
 use Rattle.header_reader.specs.declared.read.CoderRead.the-variants as coder

@@ -12,11 +12,11 @@ use lib.Seq.{take-add, drop-drop, length-take-le, drop-at}
 use lib.Pow.{pow-pos}
 use Rattle.bitstream.specs.Stream.{bits, number, zeros, filling, filled}
 use Rattle.bitstream.specs.Laws.{number-bits, bits-number, bits-zero}
+use Rattle.refusals.specs.declared.Refusal.the-variants.{EndsInHeader}
+use Rattle.refusals.specs.Reading.{Read, got, refused}
 use Rattle.settings.specs.declared.Image.{Image}
 use Rattle.settings.specs.declared.Predictor.{Predictor}
 use Rattle.settings.specs.declared.Coder.{Coder}
-use Rattle.settings.specs.declared.Refusal.the-variants.{EndsInHeader}
-use Rattle.settings.specs.Reading.{Read, got, refused}
 use Rattle.settings.specs.Tables.{every}
 use Rattle.header.specs.Fields.{same}
 use Rattle.header.specs.FieldLaws.{same-true, same-refl}

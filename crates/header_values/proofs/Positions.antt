@@ -8,12 +8,12 @@ use lib.ListN.{length, take, drop, length-append, length-drop}
 use lib.Seq.{take-take, drop-drop, drop-at, length-take-le}
 use Rattle.bitstream.specs.Stream.{number, filled}
 use Rattle.bitstream.specs.Laws.{take-drop}
+use Rattle.refusals.specs.Reading.{got}
 use Rattle.settings.specs.declared.Image.{Image}
 use Rattle.settings.specs.declared.Predictor.{Predictor}
 use Rattle.settings.specs.declared.Settings.{Settings}
 use Rattle.settings.specs.Legal.{imageLegal, predictorLegal}
 use Rattle.settings.specs.LegalLaws.{legal-image, limited-facts}
-use Rattle.settings.specs.Reading.{got}
 use Rattle.header.specs.Fields.{fields}
 use Rattle.header.specs.Parts.{imageFields, predictorFields, coderFields}
 use Rattle.header.specs.PartLaws.{length-image, length-predictor, length-coder}

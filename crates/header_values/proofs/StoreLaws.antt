@@ -16,10 +16,10 @@ use mir.Val.{SFits, toZ, ofZ}
 use mir.Facts.{toZ-pos, toZ-ofZ}
 use Rattle.bitstream.specs.Stream.{number, zeros, filling, filled}
 use Rattle.bitstream.specs.Laws.{absurd-path}
+use Rattle.refusals.specs.Reading.{Read, got}
 use Rattle.settings.specs.declared.Settings.{Settings}
 use Rattle.settings.specs.ListLaws.{sumBelow-holds}
 use Rattle.settings.specs.LegalLaws.{legal-predictor}
-use Rattle.settings.specs.Reading.{Read, got}
 use Rattle.settings.specs.Tables.{stride, accumulatorSlot, entry, componentCount}
 use Rattle.settings.specs.TableLaws.{components-fit}
 use Rattle.header.specs.Tables.{signedOf, numberAt, componentsBefore, used, slots, tablesOf}

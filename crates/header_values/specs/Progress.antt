@@ -4,10 +4,10 @@ use mathlib.Core.Bool.{Bool}
 use mathlib.Core.List.{List}
 use Prim.Native.Nat.{ℕ, _+_}
 use lib.ListN.{drop}
+use Rattle.refusals.specs.Reading.{got}
 use Rattle.settings.specs.declared.Image.{Image}
 use Rattle.settings.specs.declared.Predictor.{Predictor}
 use Rattle.settings.specs.declared.Settings.{Settings}
-use Rattle.settings.specs.Reading.{got}
 use Rattle.header.specs.Read.{readImage, readPredictor, readWeights, readCoder}
 use Rattle.header.specs.Sizes.{weightsSize}
 

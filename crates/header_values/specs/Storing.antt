@@ -7,8 +7,8 @@ use lib.Dec.{eqb}
 use lib.IntN.{ℤ, pos}
 use lib.ListN.{length, take, drop}
 use Rattle.bitstream.specs.Stream.{number}
+use Rattle.refusals.specs.Reading.{got}
 use Rattle.settings.specs.declared.Settings.{Settings}
-use Rattle.settings.specs.Reading.{got}
 use Rattle.settings.specs.Tables.{stride, accumulatorSlot}
 use Rattle.header.specs.Tables.{signedOf, used}
 use Rattle.header.specs.Read.{readAccumulators, Header, readHeader}

@@ -7,13 +7,13 @@ use lib.IntN.{ℤ, pos, natAbs}
 use lib.ListN.{length, getD}
 use lib.Dec.{ltb}
 use lib.Signed.{leZ}
+use Rattle.refusals.specs.declared.Refusal.the-variants.{IllegalSetting, WrongCount}
+use Rattle.refusals.specs.declared.Checked.{Checked}
+use Rattle.refusals.specs.Tests.{Test, _⇒_, firstHit}
 use Rattle.settings.specs.declared.Image.{Image}
 use Rattle.settings.specs.declared.Predictor.{Predictor}
 use Rattle.settings.specs.declared.Coder.{Coder}
 use Rattle.settings.specs.declared.Settings.{Settings}
-use Rattle.settings.specs.declared.Refusal.the-variants.{IllegalSetting, WrongCount}
-use Rattle.settings.specs.declared.Checked.{Checked}
-use Rattle.settings.specs.Checks.{Test, _⇒_, firstHit}
 
 -- the slots of a settings list
 abbrev pub slotCount : ℕ

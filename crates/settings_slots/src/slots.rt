@@ -1,11 +1,11 @@
 // Settings to and from 24 slots of signed 32-bit numbers. A slot that is no setting, M when band-sequential, Q with default
 // weights, K beside its table, is not looked at, whatever it holds.
 use integers::magnitude;
-use settings::Checked;
+use refusals::Checked;
+use refusals::Refusal;
 use settings::Coder;
 use settings::Image;
 use settings::Predictor;
-use settings::Refusal;
 use settings::Settings;
 ghost use mathlib.Core.Path.{_≡_};
 ghost use mathlib.Core.Bool.{true, cond, _&&_};

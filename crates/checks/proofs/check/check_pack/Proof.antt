@@ -7,10 +7,11 @@ use lib.Dec.{eqb}
 use lib.ListN.{length}
 use borrow.Author.Tests.{not-true, not-false, lt-ltb, le-ltb}
 use borrow.Author.Needs.{needs}
+use Rattle.refusals.specs.Tests.{firstHit}
 use Rattle.settings.specs.Legal.{settingsLegal, limited, sampleCount}
 use Rattle.settings.specs.LegalLaws.{legal-settings, count-fits}
 use Rattle.settings.specs.Tables.{tablesLegal}
-use Rattle.settings.specs.Checks.{firstHit, areasShort, checkPack}
+use Rattle.settings.specs.Checks.{areasShort, checkPack}
 use Rattle.settings.specs.CheckLaws.{roomy}
 use Rattle.checks.proofs.check.check_pack.Statement.{statement}
 use Rattle.checks.proofs.check.check_pack.Tie as tie

@@ -3,11 +3,11 @@ use mathlib.Core.Path.{_≡_, sym, _∙_, ap, subst}
 use native.Mathlib.Omega.{arith}
 use lib.ListN.{length, drop}
 use Rattle.bitstream.specs.Stream.{unpack}
+use Rattle.refusals.specs.declared.Refusal.the-variants.{BodyEnds, AfterEnd}
 use Rattle.settings.specs.LegalLaws.{legal-settings, count-fits}
 use Rattle.body_reader.specs.declared.Gone.{Gone}
 use Rattle.cube.specs.declared.Opened.{Opened}
 use Prim.Native.Nat.{ℕ}
-use Rattle.settings.specs.declared.Refusal.the-variants.{BodyEnds, AfterEnd}
 use Rattle.cube.specs.declared.Opened.the-variants as opening
 use Rattle.cube.specs.Opening.{endAnswer, answerOf, Reached}
 use Rattle.cube.proofs.Openings.{answered}

@@ -1,6 +1,6 @@
 -- The boundary's statement is the cube's, behind the test of the slots.
 use mathlib.Core.Path.{_≡_, sym, _∙_}
-use Rattle.settings.specs.declared.Checked.the-variants.{Passed}
+use Rattle.refusals.specs.declared.Checked.the-variants.{Passed}
 use Rattle.settings_slots.specs.Slots.{slotsChecked}
 use Rattle.cube_c.specs.BoundaryLaws.{slots-pass}
 use Rattle.cube_c.proofs.Boundaries.{lengths-refused, lengths-passed, refused-small, lengths-small}

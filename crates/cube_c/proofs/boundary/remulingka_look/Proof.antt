@@ -3,7 +3,7 @@ use mathlib.Core.Path.{_∙_, ap}
 use native.Mathlib.Omega.{arith}
 use Rattle.cube_c.specs.Answer.{openedOf}
 use Rattle.cube_c.specs.BoundaryLaws.{looked-is}
-use Rattle.settings.specs.Refusals.{value}
+use Rattle.refusals.specs.Refusals.{value}
 use Rattle.cube_c.proofs.Boundaries.{looks-short, looks-long, looks-fit}
 use borrow.Author.Needs.{needs}
 use Rattle.cube_c.proofs.boundary.remulingka_look.Statement.{statement}

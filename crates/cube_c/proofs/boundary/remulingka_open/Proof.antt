@@ -1,6 +1,6 @@
 -- The boundary's statement is the cube's, behind the test of the slots' count.
 use native.Mathlib.Omega.{arith}
-use Rattle.settings.specs.Refusals.{value}
+use Rattle.refusals.specs.Refusals.{value}
 use Rattle.cube_c.proofs.Boundaries.{opens-short, opens-long, opens-fit}
 use borrow.Author.Needs.{needs}
 use Rattle.cube_c.proofs.boundary.remulingka_open.Statement.{statement}

@@ -14,8 +14,8 @@ use Rattle.header_reader.specs.Answers.{coderRead}
 use Rattle.header.specs.FieldLaws.{split-lt}
 use Rattle.header.specs.Parts.{coderWidths}
 use Rattle.header.specs.Read.{readCoder}
-use Rattle.settings.specs.Reading.{refused}
-use Rattle.settings.specs.declared.Refusal.the-variants.{EndsInHeader, HouseLimit, BlockCoder}
+use Rattle.refusals.specs.declared.Refusal.the-variants.{EndsInHeader, HouseLimit, BlockCoder}
+use Rattle.refusals.specs.Reading.{refused}
 use Rattle.header_reader.proofs.read.read_coder.Statement.{statement}
 use Rattle.header_reader.proofs.read.read_coder.Tie as tie
 

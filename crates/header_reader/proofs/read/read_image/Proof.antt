@@ -14,10 +14,10 @@ use Rattle.header_reader.specs.Answers.{imageRead}
 use Rattle.header.specs.FieldLaws.{split-lt}
 use Rattle.header.specs.Parts.{imageWidths}
 use Rattle.header.specs.Read.{readImage}
-use Rattle.settings.specs.Checks.{_⇒_}
+use Rattle.refusals.specs.declared.Refusal.the-variants.{EndsInHeader, HouseLimit, BlockCoder}
+use Rattle.refusals.specs.Tests.{_⇒_}
+use Rattle.refusals.specs.Reading.{refused}
 use Rattle.settings.specs.Legal.{limited}
-use Rattle.settings.specs.Reading.{refused}
-use Rattle.settings.specs.declared.Refusal.the-variants.{EndsInHeader, HouseLimit, BlockCoder}
 use Rattle.header_reader.proofs.read.read_image.Statement.{statement}
 use Rattle.header_reader.proofs.read.read_image.Tie as tie
 

@@ -1,6 +1,6 @@
 -- The first test that fails decides.
 use borrow.Author.Tests.{lt-ltb, le-ltb}
-use Rattle.settings.specs.Checks.{firstHit}
+use Rattle.refusals.specs.Tests.{firstHit}
 use Rattle.settings_slots.specs.Slots.{slotsChecked}
 use borrow.Author.Needs.{needs}
 use Rattle.settings_slots.proofs.slots.slots_checked.Statement.{statement}
