@@ -19,7 +19,8 @@ use Rattle.settings.specs.declared.Image.{Image}
 use Rattle.settings.specs.declared.Predictor.{Predictor}
 use Rattle.settings.specs.declared.Coder.{Coder}
 use Rattle.settings.specs.declared.Settings.{Settings}
-use Rattle.settings.specs.Legal.{sampleCount, mostSamples}
+use Rattle.settings.specs.Legal.{sampleCount}
+use Rattle.settings.specs.Limits.{mostSamples}
 use Rattle.settings.specs.LegalLaws.{legal-settings, limited-facts}
 use Rattle.predictor.specs.Differences.{imageOf}
 use Rattle.header.specs.Read.{readImage, readPredictor, readCoder, readTable, readWeights, readAccumulators, Header, readHeader}

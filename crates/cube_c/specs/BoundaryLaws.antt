@@ -20,7 +20,8 @@ use Rattle.refusals.specs.TestLaws.{passes-all}
 use Rattle.refusals.specs.Reading.{Read, got, refused}
 use Rattle.refusals.specs.ReadingLaws.{sequenced, passed, no-test}
 use Rattle.settings.specs.declared.Settings.{Settings}
-use Rattle.settings.specs.Legal.{settingsLegal, limited, sampleCount, mostSamples}
+use Rattle.settings.specs.Legal.{settingsLegal, limited, sampleCount}
+use Rattle.settings.specs.Limits.{mostSamples}
 use Rattle.settings.specs.LegalLaws.{limited-facts}
 use Rattle.settings.specs.Range.{firstOut}
 use Rattle.settings.specs.Checks.{checkPack}

@@ -1,0 +1,36 @@
+-- The house limits (document 01) and the sizes that follow from them. A higher limit is a change of the first two numbers
+-- and of their twins in src/legal.rt; everything else is written with these names.
+use Prim.Native.Nat.{ℕ, _*_, _^_}
+
+-- the most samples of an image
+abbrev pub mostSamples : ℕ
+mostSamples = 1048576
+
+-- the most bands of an image
+abbrev pub mostBands : ℕ
+mostBands = 512
+
+-- ---- tables of so many bands
+
+-- the most components of all bands, at most 18 a band (4.5)
+abbrev pub mostComponents : ℕ
+mostComponents = 18 * mostBands
+
+-- the most bits of a weight table, at most 22 a component (5.3.3)
+abbrev pub mostWeightBits : ℕ
+mostWeightBits = 22 * mostComponents
+
+-- the most bits of a table of k', 4 a band (5.3.4.2)
+abbrev pub mostParameterBits : ℕ
+mostParameterBits = 4 * mostBands
+
+-- ---- ceilings: no limits, but what words of 64 bits hold with room to spare. They stand for images of 2^28 samples of 48 bits
+-- behind tables of 4,096 bands too, so a higher limit moves none of them.
+
+-- the bits of a table or of a header
+abbrev pub tableCeiling : ℕ
+tableCeiling = 2 ^ 28
+
+-- the bits of a file
+abbrev pub fileCeiling : ℕ
+fileCeiling = 2 ^ 40
