@@ -16,6 +16,7 @@ use Rattle.settings.specs.declared.Coder.{Coder}
 use Rattle.settings.specs.declared.Settings.{Settings}
 use Rattle.settings.specs.Lists.{sumBelow}
 use Rattle.settings.specs.Legal.{predictorLegal}
+use Rattle.settings.specs.Limits.{mostBands, mostComponents, mostWeightBits, mostParameterBits}
 use Rattle.settings.specs.LegalLaws.{LegalPredictor, legal-predictor}
 use Rattle.settings.specs.Tables.{componentCount}
 use Rattle.settings.specs.TableLaws.{components-fit}
@@ -47,7 +48,7 @@ components-most P (suc z) h = omega (arith, components-most P z h, components-fi
 
 -- ---- sizes
 
-pub bits-most : (q n : ℕ) → q ≤ 22 → n ≤ 9216 → q * n ≤ 202752
+pub bits-most : (q n : ℕ) → q ≤ 22 → n ≤ mostComponents → q * n ≤ mostWeightBits
 bits-most q n h k = mul-le-mul h k
 
 pub length-filled : (t : List Bool) → length (filled 8 t) ≡ padded (length t)
@@ -61,15 +62,15 @@ if-most : (b : Bool) (n k : ℕ) → (b ≡ true → n ≤ k) → cond b (padded
 if-most true n k h = omega (arith, h refl, filling-lt 8 n (omega arith))
 if-most false n k h = omega arith
 
-pub weights-size-most : (I : Image) (P : Predictor) → predictorLegal I P ≡ true → I .nz ≤ 512 → weightsSize I P ≤ 202759
+pub weights-size-most : (I : Image) (P : Predictor) → predictorLegal I P ≡ true → I .nz ≤ mostBands → weightsSize I P ≤ mostWeightBits + 7
 unfolding weightsSize
 weights-size-most I P e h =
-    if-most (P .custom) (weightBits I P) 202752
+    if-most (P .custom) (weightBits I P) mostWeightBits
     (λ c. bits-most (P .precision) (componentsBefore P (I .nz)) (precision-most I P e c) (omega (arith, components-most P (I .nz) (legal-predictor I P e .bands-most))))
 
-pub accumulators-size-most : (I : Image) (C : Coder) → I .nz ≤ 512 → accumulatorsSize I C ≤ 2055
+pub accumulators-size-most : (I : Image) (C : Coder) → I .nz ≤ mostBands → accumulatorsSize I C ≤ mostParameterBits + 7
 unfolding accumulatorsSize
-accumulators-size-most I C h = if-most (C .tabled) (4 * I .nz) 2048 (λ c. omega arith)
+accumulators-size-most I C h = if-most (C .tabled) (4 * I .nz) mostParameterBits (λ c. omega arith)
 
 -- ---- the header's length
 

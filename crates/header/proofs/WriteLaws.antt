@@ -22,6 +22,7 @@ use Rattle.settings.specs.declared.Settings.{Settings}
 use Rattle.settings.specs.Lists.{join}
 use Rattle.settings.specs.ListLaws.{length-join-same}
 use Rattle.settings.specs.Legal.{settingsLegal, imageLegal, predictorLegal, coderLegal}
+use Rattle.settings.specs.Limits.{mostBands}
 use Rattle.settings.specs.LegalLaws.{LegalSettings, LegalPredictor, Power, legal-settings, limited-facts}
 use Rattle.settings.specs.Tables.{stride, accumulatorSlot, entry, componentCount, weightLegal, accumulatorLegal, every, bandLegal}
 use Rattle.settings.specs.TableLaws.{components-fit, legal-tables, weight-legal, accumulator-legal}
@@ -38,7 +39,7 @@ pub record Facts (S : Settings) : Type 0 where
   pub all : LegalSettings S
   pub predictor : predictorLegal (S .image) (S .predictor) ≡ true
   pub coder : coderLegal (S .image) (S .coder) ≡ true
-  pub bands : S .image .nz ≤ 512
+  pub bands : S .image .nz ≤ mostBands
 
 legal-parts : (S : Settings) → settingsLegal S ≡ true → (predictorLegal (S .image) (S .predictor) ≡ true) × (coderLegal (S .image) (S .coder) ≡ true)
 unfolding settingsLegal
@@ -73,7 +74,7 @@ narrow S z f c =
 abbrev pub weightBitsAt : ℕ → List ℤ → ℕ → ℕ → List Bool
 weightBitsAt q tables z i = bits q (twos q (entry tables z i))
 
-pub band-most : (q n : ℕ) (tables : List ℤ) (z : ℕ) → q ≤ 22 → n ≤ 18 → length (join (weightBitsAt q tables z) 0 n) ≤ 9216
+pub band-most : (q n : ℕ) (tables : List ℤ) (z : ℕ) → q ≤ 22 → n ≤ 18 → length (join (weightBitsAt q tables z) 0 n) ≤ 22 * 18
 band-most q n tables z h k =
     let e : length (join (weightBitsAt q tables z) 0 n) ≡ q * n = length-join-same (weightBitsAt q tables z) n q (λ i. length-bits q _) in
     let m : q * n ≤ 22 * 18 = mul-le-mul h k in

@@ -5,6 +5,7 @@ ghost use Prim.Native.Nat.{_+_, _≤_, _<_, _^_};
 ghost use lib.ListN.{length, drop, take};
 ghost use Rattle.bitstream.specs.Stream.{unpack, number};
 ghost use Rattle.bitstream.specs.Writer.{Put};
+ghost use Rattle.settings.specs.Limits.{fileCeiling};
 ghost use Rattle.header.specs.Fields.{split, fields};
 ghost use Rattle.header.specs.FieldLaws.{total};
 ghost use Rattle.header.specs.Plain.{fitting};
@@ -44,7 +45,7 @@ pub fn numbers(file: &[u8], at: usize, widths: &[u32], values: &mut [u32])
 
 // Puts fields of these widths, one after the other, each with its value modulo 2^width.
 pub fn put_fields(t: Tail, out: &mut [u8], widths: &[u32], values: &[u32]) -> Tail
-    requires { ⌜ (fitting (now widths) ≡ true) × (length (now values) ≡ length (now widths)) × (length (now widths) ≤ 64) × (t .count < 32) × (t .at ≤ 2 ^ 40) ⌝ }
+    requires { ⌜ (fitting (now widths) ≡ true) × (length (now values) ≡ length (now widths)) × (length (now widths) ≤ 64) × (t .count < 32) × (t .at ≤ fileCeiling) ⌝ }
     ensures { λ r. ⌜ Put t (now (out .entry)) (fields (fieldsOf (now (widths .entry)) (now (values .entry)))) r (now (out .exit)) ⌝ }
 {
     let mut tail = t;

@@ -6,6 +6,7 @@ ghost use Prim.Native.Nat.{_+_, _*_, _≤_, _<_, _^_};
 ghost use lib.IntN.{ℤ};
 ghost use lib.ListN.{length};
 ghost use Rattle.settings.specs.Legal.{predictorLegal, settingsLegal, limited};
+ghost use Rattle.settings.specs.Limits.{mostBands, mostComponents, mostWeightBits, mostParameterBits, tableCeiling};
 ghost use Rattle.header.specs.Tables.{componentsBefore};
 ghost use Rattle.header.specs.Sizes.{padded, weightBits, weightsSize, accumulatorsSize, headerSize};
 ghost use Rattle.header.specs.Write.{header};
@@ -17,8 +18,8 @@ use settings::tables::component_count;
 
 // The components of all bands before `bands`.
 fn components_before(p: Predictor, bands: usize) -> usize
-    requires { ⌜ (p .bands ≤ 15) × (bands ≤ 512) ⌝ }
-    ensures { λ r. ⌜ (r ≡ componentsBefore p bands) × (r ≤ 9216) ⌝ }
+    requires { ⌜ (p .bands ≤ 15) × (bands ≤ mostBands) ⌝ }
+    ensures { λ r. ⌜ (r ≡ componentsBefore p bands) × (r ≤ mostComponents) ⌝ }
 {
     let mut sum: usize = 0;
     let mut z: usize = 0;
@@ -31,24 +32,24 @@ fn components_before(p: Predictor, bands: usize) -> usize
 
 // n bits and the fill behind them.
 pub fn padded(n: usize) -> usize
-    requires { ⌜ n ≤ 2 ^ 20 ⌝ }
-    ensures { λ r. ⌜ (r ≡ padded n) × (n ≤ r) × (r ≤ n + 7) × (r ≤ 2 ^ 20 + 7) ⌝ }
+    requires { ⌜ n ≤ tableCeiling ⌝ }
+    ensures { λ r. ⌜ (r ≡ padded n) × (n ≤ r) × (r ≤ n + 7) × (r ≤ tableCeiling + 7) ⌝ }
 {
     (n + 7) / 8 * 8
 }
 
 // The bits of a weight table.
 pub fn weight_bits(i: Image, p: Predictor) -> usize
-    requires { ⌜ (predictorLegal i p ≡ true) × (i .nz ≤ 512) × (p .custom ≡ true) ⌝ }
-    ensures { λ r. ⌜ (r ≡ weightBits i p) × (r ≤ 202752) ⌝ }
+    requires { ⌜ (predictorLegal i p ≡ true) × (i .nz ≤ mostBands) × (p .custom ≡ true) ⌝ }
+    ensures { λ r. ⌜ (r ≡ weightBits i p) × (r ≤ mostWeightBits) ⌝ }
 {
     p.precision as usize * components_before(p, i.nz as usize)
 }
 
 // The bits of the weight table with its fill, none where weights are default.
 pub fn weights_size(i: Image, p: Predictor) -> usize
-    requires { ⌜ (predictorLegal i p ≡ true) × (i .nz ≤ 512) ⌝ }
-    ensures { λ r. ⌜ (r ≡ weightsSize i p) × (r ≤ 202759) ⌝ }
+    requires { ⌜ (predictorLegal i p ≡ true) × (i .nz ≤ mostBands) ⌝ }
+    ensures { λ r. ⌜ (r ≡ weightsSize i p) × (r ≤ mostWeightBits + 7) ⌝ }
 {
     if !p.custom {
         return 0;
@@ -58,8 +59,8 @@ pub fn weights_size(i: Image, p: Predictor) -> usize
 
 // The bits of the table of k' with its fill, none where one K serves all bands.
 pub fn accumulators_size(i: Image, c: Coder) -> usize
-    requires { ⌜ i .nz ≤ 512 ⌝ }
-    ensures { λ r. ⌜ (r ≡ accumulatorsSize i c) × (r ≤ 2055) ⌝ }
+    requires { ⌜ i .nz ≤ mostBands ⌝ }
+    ensures { λ r. ⌜ (r ≡ accumulatorsSize i c) × (r ≤ mostParameterBits + 7) ⌝ }
 {
     if !c.tabled {
         return 0;

@@ -2,12 +2,13 @@
 ghost use mathlib.Core.Path.{_≡_};
 ghost use mathlib.Core.Bool.{true};
 ghost use mathlib.Core.List.{List};
-ghost use Prim.Native.Nat.{ℕ, _+_, _-_, _*_, _≤_, _<_, _^_};
+ghost use Prim.Native.Nat.{ℕ, _+_, _-_, _*_, _/_, _≤_, _<_, _^_};
 ghost use lib.IntN.{pos, negsuc, natAbs, _+ℤ_};
 ghost use lib.Signed.{_≤ℤ_};
 ghost use Rattle.bitstream.specs.Stream.{bits};
 ghost use Rattle.bitstream.specs.Writer.{Put};
 ghost use Rattle.settings.specs.Legal.{predictorLegal, coderLegal};
+ghost use Rattle.settings.specs.Limits.{fileCeiling};
 ghost use Rattle.settings.specs.Lists.{join};
 ghost use Rattle.settings.specs.Tables.{accumulatorSlot, entry, componentCount, weightLegal, accumulatorLegal};
 ghost use Rattle.header.specs.Fields.{fields};
@@ -32,7 +33,7 @@ use settings::tables::component_count;
 
 // Table 5-1: M is zero where bands are sequential, and the coder's type is zero.
 fn write_image(t: Tail, out: &mut [u8], i: Image) -> Tail
-    requires { ⌜ (t .count < 32) × (t .at ≤ 2 ^ 40) ⌝ }
+    requires { ⌜ (t .count < 32) × (t .at ≤ fileCeiling) ⌝ }
     ensures { λ r. ⌜ Put t (now (out .entry)) (fields (imageFields i 0)) r (now (out .exit)) ⌝ }
 {
     let signed = chosen(i.signed, 1, 0);
@@ -84,7 +85,7 @@ fn raised(v: i32) -> u32
 
 // Table 5-2: Q is zero beside default weights.
 fn write_predictor(t: Tail, out: &mut [u8], i: Image, p: Predictor) -> Tail
-    requires { ⌜ (predictorLegal i p ≡ true) × (t .count < 32) × (t .at ≤ 2 ^ 40) ⌝ }
+    requires { ⌜ (predictorLegal i p ≡ true) × (t .count < 32) × (t .at ≤ fileCeiling) ⌝ }
     ensures { λ r. ⌜ Put t (now (out .entry)) (fields (predictorFields p)) r (now (out .exit)) ⌝ }
 {
     let reduced = chosen(p.reduced, 1, 0);
@@ -121,7 +122,7 @@ fn write_predictor(t: Tail, out: &mut [u8], i: Image, p: Predictor) -> Tail
 
 // Table 5-3: K is all ones beside its table.
 fn write_coder(t: Tail, out: &mut [u8], i: Image, c: Coder) -> Tail
-    requires { ⌜ (coderLegal i c ≡ true) × (t .count < 32) × (t .at ≤ 2 ^ 40) ⌝ }
+    requires { ⌜ (coderLegal i c ≡ true) × (t .count < 32) × (t .at ≤ fileCeiling) ⌝ }
     ensures { λ r. ⌜ Put t (now (out .entry)) (fields (coderFields c)) r (now (out .exit)) ⌝ }
 {
     let constant = chosen(c.tabled, 15, c.constant);
@@ -147,7 +148,7 @@ fn twos(q: u32, v: i32) -> u32
 
 // The weights of band z.
 fn write_band(t: Tail, out: &mut [u8], s: Settings, tables: &[i32], z: usize) -> Tail
-    requires { ⌜ Writable s (now tables) × (s .predictor .custom ≡ true) × (z < s .image .nz) × (t .count < 32) × (t .at ≤ 2 ^ 41) ⌝ }
+    requires { ⌜ Writable s (now tables) × (s .predictor .custom ≡ true) × (z < s .image .nz) × (t .count < 32) × (t .at ≤ 2 * fileCeiling) ⌝ }
     ensures { λ r. ⌜ Put t (now (out .entry)) (join (λ i. bits (s .predictor .precision) (twos (s .predictor .precision) (entry (now (tables .entry)) z i))) 0 (componentCount (s .predictor) z)) r (now (out .exit)) ⌝ }
 {
     let q = s.predictor.precision;
@@ -165,7 +166,7 @@ fn write_band(t: Tail, out: &mut [u8], s: Settings, tables: &[i32], z: usize) ->
 
 // The weights of all bands.
 fn write_bands(t: Tail, out: &mut [u8], s: Settings, tables: &[i32]) -> Tail
-    requires { ⌜ Writable s (now tables) × (s .predictor .custom ≡ true) × (t .count < 32) × (t .at ≤ 2 ^ 40) ⌝ }
+    requires { ⌜ Writable s (now tables) × (s .predictor .custom ≡ true) × (t .count < 32) × (t .at ≤ fileCeiling) ⌝ }
     ensures { λ r. ⌜ Put t (now (out .entry)) (weightTable (s .predictor) (s .image .nz) (now (tables .entry))) r (now (out .exit)) ⌝ }
 {
     let bands = s.image.nz as usize;
@@ -180,7 +181,7 @@ fn write_bands(t: Tail, out: &mut [u8], s: Settings, tables: &[i32]) -> Tail
 
 // The weight table with its fill, where weights are custom.
 fn write_weights(t: Tail, out: &mut [u8], s: Settings, tables: &[i32]) -> Tail
-    requires { ⌜ Writable s (now tables) × (t .count < 32) × (t .at ≤ 2 ^ 40) ⌝ }
+    requires { ⌜ Writable s (now tables) × (t .count < 32) × (t .at ≤ fileCeiling) ⌝ }
     ensures { λ r. ⌜ Put t (now (out .entry)) (weightPart s (now (tables .entry))) r (now (out .exit)) ⌝ }
 {
     if !s.predictor.custom {
@@ -202,7 +203,7 @@ fn natural(depth: u32, v: i32) -> u32
 
 // The k' of all bands.
 fn write_entries(t: Tail, out: &mut [u8], s: Settings, tables: &[i32]) -> Tail
-    requires { ⌜ Writable s (now tables) × (s .coder .tabled ≡ true) × (t .count < 32) × (t .at ≤ 2 ^ 41) ⌝ }
+    requires { ⌜ Writable s (now tables) × (s .coder .tabled ≡ true) × (t .count < 32) × (t .at ≤ 2 * fileCeiling) ⌝ }
     ensures { λ r. ⌜ Put t (now (out .entry)) (accumulatorTable (s .image .nz) (now (tables .entry))) r (now (out .exit)) ⌝ }
 {
     let bands = s.image.nz as usize;
@@ -219,7 +220,7 @@ fn write_entries(t: Tail, out: &mut [u8], s: Settings, tables: &[i32]) -> Tail
 
 // The table of k' with its fill, where one K does not serve all bands.
 fn write_accumulators(t: Tail, out: &mut [u8], s: Settings, tables: &[i32]) -> Tail
-    requires { ⌜ Writable s (now tables) × (t .count < 32) × (t .at ≤ 2 ^ 41) ⌝ }
+    requires { ⌜ Writable s (now tables) × (t .count < 32) × (t .at ≤ 2 * fileCeiling) ⌝ }
     ensures { λ r. ⌜ Put t (now (out .entry)) (accumulatorPart s (now (tables .entry))) r (now (out .exit)) ⌝ }
 {
     if !s.coder.tabled {
@@ -233,7 +234,7 @@ fn write_accumulators(t: Tail, out: &mut [u8], s: Settings, tables: &[i32]) -> T
 
 // The whole header.
 pub fn write_header(s: Settings, tables: &[i32], t: Tail, out: &mut [u8]) -> Tail
-    requires { ⌜ Writable s (now tables) × (t .count < 32) × (t .at ≤ 2 ^ 32) ⌝ }
+    requires { ⌜ Writable s (now tables) × (t .count < 32) × (t .at ≤ fileCeiling / 8) ⌝ }
     ensures { λ r. ⌜ Put t (now (out .entry)) (header s (now (tables .entry))) r (now (out .exit)) ⌝ }
 {
     let image = write_image(t, out, s.image);

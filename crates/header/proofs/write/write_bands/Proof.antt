@@ -1,6 +1,6 @@
 -- Each turn puts the weights of the next band.
 use mathlib.Core.Path.{_≡_, refl, sym, ap, _∙_}
-use Prim.Native.Nat.{ℕ, _-_}
+use Prim.Native.Nat.{ℕ, _*_, _-_}
 use native.Mathlib.Omega.{arith}
 use Rattle.header.proofs.Joins.{Joins, joins-begin, joins-more, joins-all}
 use Rattle.header.proofs.WriteLaws.{facts, weightBitsAt, narrow, band-most}
@@ -11,7 +11,7 @@ use Rattle.header.proofs.write.write_bands.Statement.{statement}
 use Rattle.header.proofs.write.write_bands.Tie as tie
 
 abbrev Inv-loop : tie.InvT-loop
-Inv-loop out₀ s tables bands tail₀ z₀ out tail z = Joins (λ y. join (weightBitsAt (s .predictor .precision) tables y) 0 (componentCount (s .predictor) y)) 9216 bands tail₀ out₀ z tail out
+Inv-loop out₀ s tables bands tail₀ z₀ out tail z = Joins (λ y. join (weightBitsAt (s .predictor .precision) tables y) 0 (componentCount (s .predictor) y)) (22 * 18) bands tail₀ out₀ z tail out
 
 abbrev μ-loop : tie.MeasureT-loop
 μ-loop out₀ s tables bands tail₀ z₀ out tail z = bands - z
