@@ -6,6 +6,7 @@ ghost use lib.Dec.{leb, ltb, eqb};
 ghost use lib.ListN.{length, take, drop};
 ghost use Rattle.bitstream.specs.Stream.{unpack, number};
 ghost use Rattle.settings.specs.Legal.{predictorLegal};
+ghost use Rattle.settings.specs.Limits.{mostBands, tableCeiling};
 ghost use Rattle.settings.specs.Tables.{every};
 ghost use Rattle.header.specs.Fields.{split};
 ghost use Rattle.header.specs.Parts.{imageWidths, predictorWidths, coderWidths};
@@ -59,7 +60,7 @@ pub enum HeaderRead {
 
 // The file ends before a position in bits. It is compared in bytes: the length in bits may not fit a word.
 fn ends_before(file: &[u8], end: usize) -> bool
-    requires { ⌜ end ≤ 2 ^ 31 ⌝ }
+    requires { ⌜ end ≤ 4 * tableCeiling ⌝ }
     ensures { λ r. ⌜ r ≡ ltb (length (unpack (now (file .entry)))) end ⌝ }
 {
     file.len() < (end + 7) / 8
@@ -133,7 +134,7 @@ fn read_predictor(file: &[u8], image: Image) -> PredictorRead
 
 // The numbers of table 5-3.
 fn coder_numbers(file: &[u8], at: usize) -> [u32; 5]
-    requires { ⌜ (at ≤ 2 ^ 30) × (at + 16 ≤ length (unpack (now file))) ⌝ }
+    requires { ⌜ (at ≤ 2 * tableCeiling) × (at + 16 ≤ length (unpack (now file))) ⌝ }
     ensures { λ r. ⌜ r ≡ split coderWidths (drop at (unpack (now (file .entry)))) ⌝ }
 {
     let mut values = [0u32; 5];
@@ -143,7 +144,7 @@ fn coder_numbers(file: &[u8], at: usize) -> [u32; 5]
 
 // The two bytes from a position on: present, then their fields.
 fn read_coder(file: &[u8], at: usize, image: Image) -> CoderRead
-    requires { ⌜ at ≤ 2 ^ 30 ⌝ }
+    requires { ⌜ at ≤ 2 * tableCeiling ⌝ }
     ensures { λ r. ⌜ r ≡ coderRead (readCoder image (drop at (unpack (now (file .entry))))) ⌝ }
 {
     if ends_before(file, at + 16) {
@@ -159,7 +160,7 @@ fn read_coder(file: &[u8], at: usize, image: Image) -> CoderRead
 
 // Fewer than eight bits from a position on are zero.
 fn fill_clear(file: &[u8], at: usize, width: usize) -> bool
-    requires { ⌜ (width ≤ 7) × (at ≤ 2 ^ 30) × (at + width ≤ length (unpack (now file))) ⌝ }
+    requires { ⌜ (width ≤ 7) × (at ≤ 2 * tableCeiling) × (at + width ≤ length (unpack (now file))) ⌝ }
     ensures { λ r. ⌜ r ≡ eqb (number (take width (drop at (unpack (now (file .entry)))))) 0 ⌝ }
 {
     if width == 0 {
@@ -170,7 +171,7 @@ fn fill_clear(file: &[u8], at: usize, width: usize) -> bool
 
 // The weight table, where there is one: present, then its fill. Any value is a weight.
 fn read_weights(file: &[u8], image: Image, predictor: Predictor) -> Checked
-    requires { ⌜ (predictorLegal image predictor ≡ true) × (image .nz ≤ 512) × (136 ≤ length (unpack (now file))) ⌝ }
+    requires { ⌜ (predictorLegal image predictor ≡ true) × (image .nz ≤ mostBands) × (136 ≤ length (unpack (now file))) ⌝ }
     ensures { λ r. ⌜ r ≡ tableRead (readWeights image predictor (drop 136 (unpack (now (file .entry))))) ⌝ }
 {
     if !predictor.custom {
@@ -189,7 +190,7 @@ fn read_weights(file: &[u8], image: Image, predictor: Predictor) -> Checked
 
 // Every k' of a table is at most D − 2.
 fn entries_legal(file: &[u8], at: usize, image: Image) -> bool
-    requires { ⌜ (2 ≤ image .depth) × (image .nz ≤ 512) × (at ≤ 2 ^ 30) × (at + 4 * image .nz ≤ length (unpack (now file))) ⌝ }
+    requires { ⌜ (2 ≤ image .depth) × (image .nz ≤ mostBands) × (at ≤ 2 * tableCeiling) × (at + 4 * image .nz ≤ length (unpack (now file))) ⌝ }
     ensures { λ r. ⌜ r ≡ every (image .nz) (λ z. leb (number (take 4 (drop (at + 4 * z) (unpack (now (file .entry)))))) (image .depth - 2)) ⌝ }
 {
     let bands = image.nz as usize;
@@ -206,7 +207,7 @@ fn entries_legal(file: &[u8], at: usize, image: Image) -> bool
 
 // The table of k', where there is one: present, then its entries and its fill.
 fn read_accumulators(file: &[u8], at: usize, image: Image, coder: Coder) -> Checked
-    requires { ⌜ (2 ≤ image .depth) × (image .nz ≤ 512) × (at ≤ 2 ^ 29) × (at ≤ length (unpack (now file))) ⌝ }
+    requires { ⌜ (2 ≤ image .depth) × (image .nz ≤ mostBands) × (at ≤ tableCeiling) × (at ≤ length (unpack (now file))) ⌝ }
     ensures { λ r. ⌜ r ≡ tableRead (readAccumulators image coder (drop at (unpack (now (file .entry))))) ⌝ }
 {
     if !coder.tabled {

@@ -13,6 +13,7 @@ use Rattle.settings.specs.declared.Image.{Image}
 use Rattle.settings.specs.declared.Predictor.{Predictor}
 use Rattle.settings.specs.declared.Settings.{Settings}
 use Rattle.settings.specs.Legal.{imageLegal, predictorLegal}
+use Rattle.settings.specs.Limits.{mostBands, mostWeightBits}
 use Rattle.settings.specs.LegalLaws.{legal-image, limited-facts}
 use Rattle.header.specs.Fields.{fields}
 use Rattle.header.specs.Parts.{imageFields, predictorFields, coderFields}
@@ -41,7 +42,7 @@ behind F f r at n h e k =
 pub record ImageFacts (F : List Bool) (I : Image) : Type 0 where
   pub legal : imageLegal I ≡ true
   pub depth : 2 ≤ I .depth
-  pub bands : I .nz ≤ 512
+  pub bands : I .nz ≤ mostBands
   pub fits : 96 ≤ length F
 
 image-behind : (F r : List Bool) (I : Image) → readImage F ≡ got I r → Behind F r 0 96
@@ -84,7 +85,7 @@ module _ (F : List Bool) (I : Image) (P : Predictor) where
 
 pub record WeightsFacts (F : List Bool) (I : Image) (P : Predictor) (at : ℕ) : Type 0 where
   pub before : PredictorFacts F I P
-  pub small : at ≤ 202895
+  pub small : at ≤ 136 + mostWeightBits + 7
   pub fits : at ≤ length F
 
 pub weights-facts : (F : List Bool) (I : Image) (P : Predictor) (at : ℕ) → WeightsDone F I P at → WeightsFacts F I P at
@@ -103,7 +104,7 @@ module _ (F : List Bool) (S : Settings) where
 
 pub record CoderFacts (F : List Bool) (S : Settings) (at : ℕ) : Type 0 where
   pub before : PredictorFacts F (S .image) (S .predictor)
-  pub small : at ≤ 202911
+  pub small : at ≤ 152 + mostWeightBits + 7
   pub fits : at ≤ length F
 
 pub coder-facts : (F : List Bool) (S : Settings) (at : ℕ) → CoderDone F S at → CoderFacts F S at

@@ -19,6 +19,7 @@ use Rattle.bitstream.specs.Laws.{absurd-path}
 use Rattle.refusals.specs.Reading.{Read, got}
 use Rattle.settings.specs.declared.Settings.{Settings}
 use Rattle.settings.specs.ListLaws.{sumBelow-holds}
+use Rattle.settings.specs.Limits.{mostBands, mostComponents, mostWeightBits, mostParameterBits}
 use Rattle.settings.specs.LegalLaws.{legal-predictor}
 use Rattle.settings.specs.Tables.{stride, accumulatorSlot, entry, componentCount}
 use Rattle.settings.specs.TableLaws.{components-fit}
@@ -101,7 +102,7 @@ module _ (F : List Bool) (S : Settings) (at : ℕ) (d : AccumulatorsDone F S at)
   pub record EntryIn (z : ℕ) : Type 0 where
     pub is : numberAt 4 (d .table) z ≡ number (take 4 (drop (at + 4 * z) F))
     pub room : at + 4 * z + 4 ≤ length F
-    pub small : at + 4 * z ≤ 204959
+    pub small : at + 4 * z ≤ 152 + mostWeightBits + 7 + mostParameterBits
 
   pub entry-in : (z : ℕ) → S .coder .tabled ≡ true → z < S .image .nz → EntryIn z
   entry-in z c h =
@@ -117,8 +118,8 @@ module _ (F : List Bool) (S : Settings) (at : ℕ) (d : AccumulatorsDone F S at)
   -- weight i behind the first ones
   pub record WeightAt (i first : ℕ) : Type 0 where
     pub room : 136 + q * (first + i) + q ≤ length F
-    pub small : q * (first + i) + q ≤ 202752
-    pub few : first + i ≤ 9216
+    pub small : q * (first + i) + q ≤ mostWeightBits
+    pub few : first + i ≤ mostComponents
     pub least : 1 ≤ q
     pub most : q ≤ 22
 
@@ -126,8 +127,8 @@ module _ (F : List Bool) (S : Settings) (at : ℕ) (d : AccumulatorsDone F S at)
   pub record WeightIn (z i : ℕ) : Type 0 where
     pub is : numberAt q (d .before .before .table) (componentsBefore (S .predictor) z + i) ≡ number (take q (drop (136 + q * (componentsBefore (S .predictor) z + i)) F))
     pub room : 136 + q * (componentsBefore (S .predictor) z + i) + q ≤ length F
-    pub small : q * (componentsBefore (S .predictor) z + i) + q ≤ 202752
-    pub few : componentsBefore (S .predictor) z + i ≤ 9216
+    pub small : q * (componentsBefore (S .predictor) z + i) + q ≤ mostWeightBits
+    pub few : componentsBefore (S .predictor) z + i ≤ mostComponents
     pub least : 1 ≤ q
     pub most : q ≤ 22
 
@@ -146,8 +147,8 @@ module _ (F : List Bool) (S : Settings) (at : ℕ) (d : AccumulatorsDone F S at)
       let u : q * suc n ≤ q * N = mul-le-mul-left q b in
       let v : q * n + q ≤ q * N = omega arith in
       let most = precision-most (S .image) (S .predictor) (p .legal) c in
-      let all : N ≤ 9216 = omega (arith, components-most (S .predictor) (S .image .nz) (l .bands-most), p .image .bands) in
-      let big : q * N ≤ 202752 = bits-most q N most all in
+      let all : N ≤ mostComponents = omega (arith, components-most (S .predictor) (S .image .nz) (l .bands-most), p .image .bands) in
+      let big : q * N ≤ mostWeightBits = bits-most q N most all in
       let m : q * N ≤ length F - 136 = subst (λ (x : ℕ). q * N ≤ x) (length-drop 136 F) (s .fits) in
       record {
         is = ap (λ (t : List Bool). numberAt q t n) (s .is) ∙ number-in-file F 136 q (q * N) n v (s .fits);
@@ -162,7 +163,7 @@ module _ (F : List Bool) (S : Settings) (at : ℕ) (d : AccumulatorsDone F S at)
   pub weight-from : (z i first : ℕ) → S .predictor .custom ≡ true → first ≡ componentsBefore (S .predictor) z → z < S .image .nz → i < componentCount (S .predictor) z → WeightAt i first
   weight-from z i first c e h k = subst (λ (n : ℕ). WeightAt i n) (sym e) (let w = weight-in z i c h k in record { room = w .room; small = w .small; few = w .few; least = w .least; most = w .most })
 
-  pub bands-few : S .image .nz ≤ 512
+  pub bands-few : S .image .nz ≤ mostBands
   bands-few = coder-facts F S at (d .before) .before .image .bands
 
   pub components-few : (z : ℕ) → componentCount (S .predictor) z ≤ 18

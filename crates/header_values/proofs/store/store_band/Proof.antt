@@ -6,6 +6,7 @@ use mir.Facts.{toZ-ofZ}
 use mir.Syntax.{w32}
 use Rattle.integers.specs.Laws.{ok}
 use Rattle.bitstream.specs.Stream.{unpack}
+use Rattle.settings.specs.Limits.{mostBands}
 use Rattle.header_values.proofs.StoreLaws.{Laying, laying-begin, laying-more, laying-all, bands-few}
 use Rattle.header_values.proofs.store.store_band.Statement.{statement}
 use Rattle.header_values.proofs.store.store_band.Tie as tie
@@ -19,7 +20,7 @@ Inv-loop file s tables₀ at first z base i₀ tables i = Laying (unpack file) z
 abbrev μ-loop : tie.MeasureT-loop
 μ-loop file s tables₀ at first z base i₀ tables i = 19 - i
 
-few : (c : tie.Start Inv-loop μ-loop) → c .args .z < 512
+few : (c : tie.Start Inv-loop μ-loop) → c .args .z < mostBands
 few c = omega (arith, c .pre .2, bands-few _ (c .args .s) (c .args .at) (c .pre .0))
 
 mul-base : tie.Need-mul-base Inv-loop μ-loop
