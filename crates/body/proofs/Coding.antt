@@ -27,7 +27,7 @@ use Rattle.predictor.specs.Differences.{imageOf, componentsAt}
 use Rattle.coder.specs.declared.Statistics.{Statistics}
 use Rattle.coder.specs.Statistics.{initialStatistics, nextStatistics}
 use Rattle.coder.specs.StatisticsLaws.{Tame, initial-tame, next-tame}
-use Rattle.coder.specs.Asks.{Counted, Beginning, Putting}
+use Rattle.coder.specs.Asks.{mostRescaling, rescaling-fits, Counted, Beginning, Putting}
 use Rattle.coder.proofs.Firsts.{parameter-fits}
 use Rattle.body.specs.declared.plan.Plan.{Plan}
 use Rattle.body.specs.State.{Holds}
@@ -44,7 +44,7 @@ module _ {S : Settings} {tables : List ℤ} {z : ℕ} (b : Beginning S tables z)
   pub first-counted : Counted (initialStatistics S tables z)
   first-counted =
       let l = legal-settings S (b .legal) in
-      counted (l .image .depth-most) (l .coder .rescaling-most)
+      counted (l .image .depth-most) (rescaling-fits (l .coder))
       (initial-tame S tables z (record { rescaled = l .coder .rescaling-above; parameter-fits = parameter-fits b }))
 
 -- the components of a place, taken off the 18 slots that they were written to
@@ -163,7 +163,7 @@ module _ {S : Settings} {P : Plan} {l us : List ℤ} {sum s : ℤ} {k : Tail} {t
         old-tame = rw eo (q .tame)
 
         old-counted : Counted old
-        old-counted = counted (legal .image .depth-most) (legal .coder .rescaling-most) old-tame
+        old-counted = counted (legal .image .depth-most) (rescaling-fits (legal .coder)) old-tame
 
         pub putting : Putting k δ old (S .image .depth) (S .coder .unary)
         putting = record {
@@ -176,18 +176,18 @@ module _ {S : Settings} {P : Plan} {l us : List ℤ} {sum s : ℤ} {k : Tail} {t
           room = let r = q .room in omega arith;
         }
 
-        pub counting : Counted old × (δ < 2 ^ 16) × (S .coder .rescaling ≤ 9)
+        pub counting : Counted old × (δ < 2 ^ 16) × (S .coder .rescaling ≤ mostRescaling)
         counting =
             let p : 2 ^ S .image .depth ≤ 2 ^ 16 = pow-mono (legal .image .depth-most) in
             let d = delta-fits in
-            (old-counted, omega arith, legal .coder .rescaling-most)
+            (old-counted, omega arith, rescaling-fits (legal .coder))
 
         module _ {new : Statistics} (en : new ≡ nextStatistics (S .coder .rescaling) δ old) where
           pub new-fits : Fitting l new
           new-fits =
               let g = legal .coder .rescaling-least in
               fitting (q .naturals .long)
-              (counted (legal .image .depth-most) (legal .coder .rescaling-most)
+              (counted (legal .image .depth-most) (rescaling-fits (legal .coder))
               (rw en (next-tame (S .image .depth) (S .coder .rescaling) δ old (omega arith) delta-fits old-tame)))
 
           pub adapting : {l1 : List ℤ} → l1 ≡ withStatistics l new → length l1 ≡ length l → Adapting S P l1 us s~ t

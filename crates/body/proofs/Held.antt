@@ -10,7 +10,7 @@ use lib.Pow.{pow-mono}
 use lib.Seq.{take-at, take-set-le, getD-append-add, getD-drop, getD-set-same, getD-set-other}
 use Rattle.coder.specs.declared.Statistics.{Statistics}
 use Rattle.coder.specs.StatisticsLaws.{Tame}
-use Rattle.coder.specs.Asks.{Counted}
+use Rattle.coder.specs.Asks.{mostRescaling, Counted}
 use Rattle.body.specs.State.{Band, Holds}
 use Rattle.body.specs.Value.{statisticsIn, bandIn, withStatistics, Naturals, Fitting}
 
@@ -37,12 +37,12 @@ naturals {l} {b} e h = record {
 }
 
 -- statistics within their bounds fit the coder and the slots
-pub counted : {D γ : ℕ} {s : Statistics} → D ≤ 16 → γ ≤ 9 → Tame D γ s → Counted s
+pub counted : {D γ : ℕ} {s : Statistics} → D ≤ 16 → γ ≤ mostRescaling → Tame D γ s → Counted s
 counted {D} {γ} {s} d g t =
-    let c : 2 ^ γ ≤ 2 ^ 9 = pow-mono g in
+    let c : 2 ^ γ ≤ 2 ^ mostRescaling = pow-mono g in
     let m : 2 ^ D ≤ 2 ^ 16 = pow-mono d in
-    let most : s .count ≤ 2 ^ 9 = let l = t .most in omega arith in
-    let p : 2 ^ D * s .count ≤ 2 ^ 16 * 2 ^ 9 = mul-le-mul m most in
+    let most : s .count ≤ 2 ^ mostRescaling = let l = t .most in omega arith in
+    let p : 2 ^ D * s .count ≤ 2 ^ 16 * 2 ^ mostRescaling = mul-le-mul m most in
     record { count-most = let l = t .most in omega arith; accumulator-most = let b = t .bounded in omega arith }
 
 pub fitting : {l : List ℤ} {s : Statistics} → length l ≡ 32 → Counted s → Fitting l s

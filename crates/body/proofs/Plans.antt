@@ -13,6 +13,7 @@ use borrow.Author.Tests.{le-leb, lt-leb}
 use Rattle.integers.specs.Laws.{le-parts, one0, abs-parts, add, mul-P, mul-N, sz-abs, sz-fits}
 use Rattle.settings.specs.declared.Settings.{Settings}
 use Rattle.settings.specs.Legal.{settingsLegal, limited}
+use Rattle.settings.specs.Limits.{mostSamples}
 use Rattle.settings.specs.LegalLaws.{LegalSettings, legal-settings, limited-facts}
 use Rattle.settings.specs.Range.{lowest, middle, highest}
 use Rattle.settings.specs.RangeLaws.{small}
@@ -26,7 +27,7 @@ use Rattle.body.specs.Plan.{halvings, planOf}
 
 -- ---- sizes
 
-pub area-few : (S : Settings) → settingsLegal S ≡ true → limited (S .image) ≡ true → S .image .nx * S .image .ny ≤ 2 ^ 20
+pub area-few : (S : Settings) → settingsLegal S ≡ true → limited (S .image) ≡ true → S .image .nx * S .image .ny ≤ mostSamples
 area-few S h k =
     let n : 1 ≤ S .image .nz = legal-settings S h .image .nz-least in
     let m : 1 * (S .image .nx * S .image .ny) ≤ S .image .nz * (S .image .nx * S .image .ny) = mul-le-mul-right (S .image .nx * S .image .ny) n in

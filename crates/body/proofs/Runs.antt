@@ -18,6 +18,7 @@ use Rattle.settings.specs.declared.Settings.{Settings}
 use Rattle.settings.specs.declared.Image.{Image}
 use Rattle.settings.specs.Lists.{join}
 use Rattle.settings.specs.ListLaws.{join-append}
+use Rattle.settings.specs.Limits.{mostSamples}
 use Rattle.settings.specs.LegalLaws.{limited-facts}
 use Rattle.predictor.specs.Differences as predictor
 use Rattle.predictor.specs.Differences.{imageOf}
@@ -192,7 +193,7 @@ module _ (S : Settings) (tables samples : List ℤ) (f : ℕ → List Place) whe
 -- ---- places
 
 module _ {S : Settings} {P : Plan} {tables samples : List ℤ} (g : Given S P tables samples) where
-  pub area-small : S .image .nx * S .image .ny ≤ 2 ^ 20
+  pub area-small : S .image .nx * S .image .ny ≤ mostSamples
   area-small = area-few S (g .image .legal) (g .image .within)
 
 pub place-in : (I : Image) {y x : ℕ} → y < I .ny → x < I .nx → y * I .nx + x < I .nx * I .ny

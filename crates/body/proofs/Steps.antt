@@ -19,6 +19,7 @@ use Rattle.bitstream.specs.Writer.{Put}
 use Rattle.bitstream.proofs.Writes.{put-as}
 use Rattle.settings.specs.declared.Settings.{Settings}
 use Rattle.settings.specs.Legal.{sampleCount}
+use Rattle.settings.specs.Limits.{mostSamples}
 use Rattle.settings.specs.LegalLaws.{LegalSettings, legal-settings, limited-facts}
 use Rattle.settings.specs.Range.{inRange}
 use Rattle.settings.specs.RangeLaws.{in-range-size, zero-in-range}
@@ -81,7 +82,7 @@ module _ {S : Settings} {P : Plan} {tables samples : List ℤ} (g : Given S P ta
       let p = digits-lt h k in
       omega (arith, g .image .long, mul-comm (S .image .nx * S .image .ny) (S .image .nz))
 
-  pub index-small : {z t : ℕ} → z < S .image .nz → t < S .image .nx * S .image .ny → z * (S .image .nx * S .image .ny) + t ≤ 2 ^ 20
+  pub index-small : {z t : ℕ} → z < S .image .nz → t < S .image .nx * S .image .ny → z * (S .image .nx * S .image .ny) + t ≤ mostSamples
   unfolding sampleCount
   index-small h k = omega (arith, index-in h k, g .image .long, limited-facts (S .image) (g .image .within) .few-samples)
 
@@ -246,7 +247,7 @@ module _ {S : Settings} {P : Plan} {tables samples l : List ℤ} {k : Tail} {z :
   pub first-at : z * (S .image .nx * S .image .ny) < length samples
   first-at = let h = index-in (r .given) (r .band-in) (r .place-in) in omega arith
 
-  pub first-index : z * (S .image .nx * S .image .ny) ≤ 2 ^ 20
+  pub first-index : z * (S .image .nx * S .image .ny) ≤ mostSamples
   first-index = let h = index-small (r .given) (r .band-in) (r .place-in) in omega arith
 
   -- the first sample of the band

@@ -79,7 +79,7 @@ pub record Adapting (S : Settings) (P : Plan) (slots us : List ℤ) (s~ : ℤ) (
   pub place-in : t < S .image .nx * S .image .ny
   pub long : length slots ≡ scratchStride
   pub pairs : Pairs (take (length us) slots) us
-  pub scaled-small : natAbs s~ ≤ 2 ^ 20
+  pub scaled-small : natAbs s~ ≤ 2 ^ 18
 
 -- a value is to be coded: its components, local sum and sample
 pub record Coding (S : Settings) (P : Plan) (slots us : List ℤ) (sum s : ℤ) (k : Tail) (t : ℕ) : Type 0 where

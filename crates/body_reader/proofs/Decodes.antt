@@ -25,7 +25,7 @@ use Rattle.coder.specs.declared.Statistics.{Statistics}
 use Rattle.coder.specs.Codeword.{parse}
 use Rattle.coder.specs.CodewordLaws.{codeword-parse}
 use Rattle.coder.specs.Statistics.{nextStatistics, parameter}
-use Rattle.coder.specs.Asks.{Counted, Getting}
+use Rattle.coder.specs.Asks.{mostRescaling, rescaling-fits, Counted, Getting}
 use Rattle.body.specs.declared.plan.Plan.{Plan}
 use Rattle.body.specs.State.{Holds}
 use Rattle.body.specs.Value.{behind, statisticsIn, bandIn, withStatistics, scaledIn, Fitting, Adapting, Coding}
@@ -91,7 +91,7 @@ module _ {S : Settings} {P : Plan} {l us : List ℤ} {sum : ℤ} {at t : ℕ} (q
 
   pub getting : {old : Statistics} → old ≡ statisticsIn l → Getting old (S .image .depth) (S .coder .unary) at
   getting {old} eo = record {
-    counted = rw eo (counted (legal .image .depth-most) (legal .coder .rescaling-most) (q .tame));
+    counted = rw eo (counted (legal .image .depth-most) (rescaling-fits (legal .coder)) (q .tame));
     depth-least = legal .image .depth-least;
     depth-most = legal .image .depth-most;
     unary-most = legal .coder .unary-most;
@@ -119,7 +119,7 @@ module _ {S : Settings} {P : Plan} {l us : List ℤ} {sum : ℤ} {at t : ℕ} (q
         delta-is = sym (ap (mapped S s~) ev ∙ mapped-unmapped S s~ δ)
 
         module _ {old : Statistics} (eo : old ≡ statisticsIn l) where
-          pub counting : Counted old × (δ < 2 ^ 16) × (S .coder .rescaling ≤ 9)
+          pub counting : Counted old × (δ < 2 ^ 16) × (S .coder .rescaling ≤ mostRescaling)
           counting = coding.counting value-coding es delta-is eo
 
           module _ {new : Statistics} (en : new ≡ nextStatistics (S .coder .rescaling) δ old) where

@@ -99,7 +99,7 @@ pub record Error (x s : ℤ) : Type 0 where
   pub m : SFits w64 (pos 2 *ℤ x)
   pub d : SFits w64 (pos 2 *ℤ x -ℤ s)
 
-pub error-fits : (x s : ℤ) → SFits w32 x → SFits w64 s → natAbs s ≤ 2 ^ 20 → Error x s
+pub error-fits : (x s : ℤ) → SFits w32 x → SFits w64 s → natAbs s ≤ 2 ^ 18 → Error x s
 error-fits x s fx fs h =
     let zm = sz-mul (sz-lit 2) (sz-of fx) in
     record { x-32 = fx; x-64 = wide fx; s-64 = fs; m = sz-fits zm tt; d = sz-fits (sz-sub zm (sz-abs s h)) tt }

@@ -67,7 +67,7 @@ pub fn exponent(
 
 // Whether the scaled error is 0 or more, so that the weights step up.
 pub fn error_not_negative(sample: i32, scaled: i64) -> bool
-    requires { ⌜ natAbs scaled ≤ 2 ^ 20 ⌝ }
+    requires { ⌜ natAbs scaled ≤ 2 ^ 18 ⌝ }
     ensures { λ r. ⌜ r ≡ leZ (pos 0) (scaledError sample scaled) ⌝ }
 {
     0 <= 2 * (sample as i64) - scaled

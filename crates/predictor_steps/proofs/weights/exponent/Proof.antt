@@ -1,7 +1,7 @@
 -- `predictor_steps::weights::exponent` meets its contract: the turns are small, the clip holds them to the settings, and the sum is at most 30 in size.
 use borrow.Author.Needs.{needs}
 use mathlib.Core.Path.{_≡_, _∙_, ap}
-use Prim.Native.Nat.{_^_}
+use Prim.Native.Nat.{_*_, _^_}
 use native.Mathlib.Omega.{arith}
 use lib.Pow.{pow-pos}
 use lib.IntN.{ℤ, pos, _+ℤ_, _-ℤ_}
@@ -10,6 +10,7 @@ use mir.Val.{SFits, toZ}
 use mir.Facts.{toZ-ofZ, toZ-pos}
 use Rattle.integers.specs.Integer.{floorDiv, clip}
 use Rattle.integers.specs.Laws.{zs, ok, wide, sub, one0, abs-parts, clip-in, Sz, sz-abs, sz-add, sz-fits, sz-floor}
+use Rattle.settings.specs.Limits.{mostSamples}
 use Rattle.predictor.specs.WeightUpdate.{exponentBy}
 use Rattle.predictor_steps.proofs.WeightFits.{Exponent, exponent-fits}
 use Rattle.predictor_steps.proofs.weights.exponent.Statement.{statement}
@@ -29,7 +30,7 @@ module _ (c : tie.Start) where
   o-pos : toZ w64 (c .args .resolution) ≡ pos (c .args .resolution)
   o-pos = toZ-pos w64 (omega (arith, c .pre .resolution-most))
 
-  diff-size : Sz (2 ^ 21) (pos (c .args .t) -ℤ pos (c .args .nx))
+  diff-size : Sz (2 * mostSamples) (pos (c .args .t) -ℤ pos (c .args .nx))
   diff-size = record { le = let h = sub (pos (c .args .t)) (pos (c .args .nx)) .size in omega (arith, c .pre .t-most, c .pre .nx-most) }
 
   diff-fits : SFits w64 (pos (c .args .t) -ℤ pos (c .args .nx))
@@ -39,7 +40,7 @@ q-is : (c : tie.After-floor-shift)
     → c .floor-shift .result ≡ floorDiv (pos (c .before .args .t) -ℤ pos (c .before .args .nx)) (2 ^ c .before .args .interval-log)
 q-is c = let s = c .before in simp (toZ-ofZ, diff-fits s) at (rw (t-pos s, n-pos s) at (c .floor-shift .ensures))
 
-q-size : (c : tie.After-floor-shift) → Sz (2 ^ 21) (c .floor-shift .result)
+q-size : (c : tie.After-floor-shift) → Sz (2 * mostSamples) (c .floor-shift .result)
 q-size c = rw (q-is c) (sz-floor (2 ^ c .before .args .interval-log) (pow-pos (c .before .args .interval-log)) (diff-size (c .before)))
 
 sum-fits : (c : tie.After-floor-shift) → SFits w64 (c .before .args .vmin +ℤ c .floor-shift .result)
