@@ -1,6 +1,5 @@
 -- The laws that the header's functions stand on.
 pub mod Numbers
 pub mod Signs
-pub mod SizeLaws
 pub mod Joins
 pub mod WriteLaws

@@ -32,7 +32,7 @@ use Rattle.header.specs.Tables.{twos, weightTable, accumulatorTable}
 use Rattle.header.specs.Write.{weightPart, accumulatorPart}
 use Rattle.header.specs.Sizes.{padded}
 use Rattle.header.specs.Writing.{Writable}
-use Rattle.header.proofs.SizeLaws.{cond-true}
+use Rattle.header.specs.SizeLaws.{cond-true}
 
 -- what can be written is legal, part by part
 pub record Facts (S : Settings) : Type 0 where

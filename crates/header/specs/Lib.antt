@@ -12,3 +12,4 @@ pub mod Writing
 pub mod Read
 pub mod ReadLaws
 pub mod HeaderLaws
+pub mod SizeLaws

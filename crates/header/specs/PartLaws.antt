@@ -18,20 +18,20 @@ use Rattle.settings.specs.declared.Coder.{Coder}
 use Rattle.settings.specs.Legal.{between, imageLegal, predictorLegal, coderLegal, limited, sampleCount}
 use Rattle.settings.specs.LegalLaws.{LegalImage, LegalPredictor, LegalCoder, Power}
 use Rattle.header.specs.Fields.{fields, split, flag}
-use Rattle.header.specs.Parts.{imageFields, imageWidths, imageOf, coderType, predictorFields, predictorWidths, predictorOf, coderFields, coderWidths, coderOf, exponentOf, unwrapped, isOne, usedImage, usedPredictor, usedCoder}
+use Rattle.header.specs.Parts.{imageFields, imageWidths, imageOf, coderType, predictorFields, predictorWidths, predictorOf, coderFields, coderWidths, coderOf, exponentOf, unwrapped, isOne, usedImage, usedPredictor, usedCoder, imageBits, predictorBits, coderBits}
 use Rattle.header.specs.FieldLaws.{widths, values, total, split-fields, length-fields}
 
 -- ---- lengths
 
-pub length-image : (I : Image) (c : ℕ) → length (fields (imageFields I c)) ≡ 96
+pub length-image : (I : Image) (c : ℕ) → length (fields (imageFields I c)) ≡ imageBits
 unfolding imageFields widths total
 length-image I c = length-fields (imageFields I c)
 
-pub length-predictor : (P : Predictor) → length (fields (predictorFields P)) ≡ 40
+pub length-predictor : (P : Predictor) → length (fields (predictorFields P)) ≡ predictorBits
 unfolding predictorFields widths total
 length-predictor P = length-fields (predictorFields P)
 
-pub length-coder : (C : Coder) → length (fields (coderFields C)) ≡ 16
+pub length-coder : (C : Coder) → length (fields (coderFields C)) ≡ coderBits
 unfolding coderFields widths total
 length-coder C = length-fields (coderFields C)
 

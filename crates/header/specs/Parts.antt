@@ -20,6 +20,10 @@ imageFields I coder =
 abbrev pub imageWidths : List ℕ
 imageWidths = 8 ∷ 16 ∷ 16 ∷ 16 ∷ 1 ∷ 2 ∷ 4 ∷ 1 ∷ 16 ∷ 2 ∷ 3 ∷ 1 ∷ 10 ∷ []
 
+-- their bits
+abbrev pub imageBits : ℕ
+imageBits = 96
+
 -- the e ≤ n with 2^e = x
 unfoldable pub exponentOf : ℕ → ℕ → ℕ
 exponentOf zero x = 0
@@ -37,6 +41,13 @@ predictorFields P =
 abbrev pub predictorWidths : List ℕ
 predictorWidths = 2 ∷ 4 ∷ 1 ∷ 1 ∷ 1 ∷ 1 ∷ 6 ∷ 4 ∷ 4 ∷ 4 ∷ 4 ∷ 1 ∷ 1 ∷ 1 ∷ 5 ∷ []
 
+-- their bits, and the place behind them, where the weight table stands
+abbrev pub predictorBits : ℕ
+predictorBits = 40
+
+abbrev pub predictorEnd : ℕ
+predictorEnd = imageBits + predictorBits
+
 -- 2 bytes: Umax, γ* − 4, γ0, K or all ones, table flag
 unfoldable pub coderFields : Coder → List Field
 coderFields C =
@@ -45,6 +56,13 @@ coderFields C =
 -- the widths of table 5-3
 abbrev pub coderWidths : List ℕ
 coderWidths = 5 ∷ 3 ∷ 3 ∷ 4 ∷ 1 ∷ []
+
+-- their bits, and those of all three parts
+abbrev pub coderBits : ℕ
+coderBits = 16
+
+abbrev pub fixedBits : ℕ
+fixedBits = predictorEnd + coderBits
 
 -- ---- and back
 

@@ -18,7 +18,7 @@ use Rattle.settings.specs.declared.Settings.{Settings}
 use Rattle.settings.specs.Legal.{imageLegal, predictorLegal, coderLegal, limited}
 use Rattle.settings.specs.Tables.{every}
 use Rattle.header.specs.Fields.{fields, split, same}
-use Rattle.header.specs.Parts.{imageFields, imageWidths, imageOf, coderType, predictorFields, predictorWidths, predictorOf, coderFields, coderWidths, coderOf}
+use Rattle.header.specs.Parts.{imageFields, imageWidths, imageOf, coderType, predictorFields, predictorWidths, predictorOf, coderFields, coderWidths, coderOf, imageBits, predictorBits, coderBits}
 use Rattle.header.specs.Tables.{componentsBefore, numberAt, tablesOf}
 
 -- n bits are there, or the header ends inside
@@ -28,13 +28,13 @@ present n l x = unless (firstHit (ltb (length l) n ⇒ EndsInHeader ∷ [])) x
 -- table 5-1; its fields come before the coder's type, and that before the house limits
 unfoldable pub readImage : List Bool → Read Image
 readImage l =
-    present 96 l
+    present imageBits l
     (unless (firstHit
-    (not (imageLegal (imageOf v) && same (take 96 l) (fields (imageFields (imageOf v) (coderType v)))) ⇒ IllegalField
+    (not (imageLegal (imageOf v) && same (take imageBits l) (fields (imageFields (imageOf v) (coderType v)))) ⇒ IllegalField
     ∷ eqb (coderType v) 1 ⇒ BlockCoder
     ∷ not (limited (imageOf v)) ⇒ HouseLimit
     ∷ []))
-    (got (imageOf v) (drop 96 l)))
+    (got (imageOf v) (drop imageBits l)))
   where
     v : List ℕ
     v = split imageWidths l
@@ -42,10 +42,10 @@ readImage l =
 -- table 5-2
 unfoldable pub readPredictor : Image → List Bool → Read Predictor
 readPredictor I l =
-    present 40 l
+    present predictorBits l
     (unless (firstHit
-    (not (predictorLegal I (predictorOf v) && same (take 40 l) (fields (predictorFields (predictorOf v)))) ⇒ IllegalField ∷ []))
-    (got (predictorOf v) (drop 40 l)))
+    (not (predictorLegal I (predictorOf v) && same (take predictorBits l) (fields (predictorFields (predictorOf v)))) ⇒ IllegalField ∷ []))
+    (got (predictorOf v) (drop predictorBits l)))
   where
     v : List ℕ
     v = split predictorWidths l
@@ -53,10 +53,10 @@ readPredictor I l =
 -- table 5-3
 unfoldable pub readCoder : Image → List Bool → Read Coder
 readCoder I l =
-    present 16 l
+    present coderBits l
     (unless (firstHit
-    (not (coderLegal I (coderOf v) && same (take 16 l) (fields (coderFields (coderOf v)))) ⇒ IllegalField ∷ []))
-    (got (coderOf v) (drop 16 l)))
+    (not (coderLegal I (coderOf v) && same (take coderBits l) (fields (coderFields (coderOf v)))) ⇒ IllegalField ∷ []))
+    (got (coderOf v) (drop coderBits l)))
   where
     v : List ℕ
     v = split coderWidths l

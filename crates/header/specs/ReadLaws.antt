@@ -27,7 +27,7 @@ use Rattle.settings.specs.LegalLaws.{legal-image, legal-predictor, legal-coder}
 use Rattle.settings.specs.Tables.{accumulatorSlot, entry, backward, componentCount, every}
 use Rattle.settings.specs.TableLaws.{every-at, every-of}
 use Rattle.header.specs.Fields.{fields, split, same}
-use Rattle.header.specs.Parts.{imageFields, imageWidths, imageOf, coderType, predictorFields, predictorWidths, predictorOf, coderFields, coderWidths, coderOf, usedImage, usedPredictor, usedCoder}
+use Rattle.header.specs.Parts.{imageFields, imageWidths, imageOf, coderType, predictorFields, predictorWidths, predictorOf, coderFields, coderWidths, coderOf, usedImage, usedPredictor, usedCoder, imageBits, predictorBits, coderBits}
 use Rattle.header.specs.Tables.{weightTable, accumulatorTable, componentsBefore, numberAt}
 use Rattle.header.specs.Write.{weightPart, accumulatorPart}
 use Rattle.header.specs.Read.{present, readImage, readPredictor, readCoder, readTable, readWeights, readAccumulators}
@@ -84,7 +84,7 @@ image-read I r e h =
     let c : coderType v ≡ 0 = coder-type-back I 0 r (omega arith) in
     let m : imageLegal (imageOf v) ≡ true = ap imageLegal i ∙ image-legal-used I ∙ e in
     let o : limited (imageOf v) ≡ true = ap limited i ∙ limited-used I ∙ h in
-    part-read 96 (imageLegal (imageOf v)) f (fields (imageFields (imageOf v) (coderType v))) (eqb (coderType v) 1 ⇒ BlockCoder ∷ not (limited (imageOf v)) ⇒ HouseLimit ∷ []) (imageOf v) r
+    part-read imageBits (imageLegal (imageOf v)) f (fields (imageFields (imageOf v) (coderType v))) (eqb (coderType v) 1 ⇒ BlockCoder ∷ not (limited (imageOf v)) ⇒ HouseLimit ∷ []) (imageOf v) r
     (length-image I 0) m (rw (i, c, image-written)) (rw (c, o))
     ∙ ap (λ (x : Image). got x r) i
 
@@ -104,9 +104,9 @@ unfolding readImage
 read-image l r I e =
     let v : List ℕ = split imageWidths l in
     let limits : List Test = not (limited (imageOf v)) ⇒ HouseLimit ∷ [] in
-    let p = read-part 96 (imageLegal (imageOf v)) (fields (imageFields (imageOf v) (coderType v))) (eqb (coderType v) 1 ⇒ BlockCoder ∷ limits) (imageOf v) l I r e in
-    let c = passed (got (imageOf v) (drop 96 l)) (eqb (coderType v) 1) BlockCoder limits I r (p .others) in
-    let d = passed (got (imageOf v) (drop 96 l)) (not (limited (imageOf v))) HouseLimit [] I r (c .1) in
+    let p = read-part imageBits (imageLegal (imageOf v)) (fields (imageFields (imageOf v) (coderType v))) (eqb (coderType v) 1 ⇒ BlockCoder ∷ limits) (imageOf v) l I r e in
+    let c = passed (got (imageOf v) (drop imageBits l)) (eqb (coderType v) 1) BlockCoder limits I r (p .others) in
+    let d = passed (got (imageOf v) (drop imageBits l)) (not (limited (imageOf v))) HouseLimit [] I r (c .1) in
     rw (← p .value) (record {
       legal = p .test;
       limits = not-false (limited (imageOf v)) (d .0);
@@ -123,7 +123,7 @@ predictor-read I P r e =
     let v : List ℕ = split predictorWidths (f ++ r) in
     let i : predictorOf v ≡ usedPredictor P = predictor-back I P r (legal-predictor I P e) in
     let m : predictorLegal (usedImage I) (predictorOf v) ≡ true = ap (predictorLegal (usedImage I)) i ∙ predictor-legal-used I P ∙ e in
-    part-read 40 (predictorLegal (usedImage I) (predictorOf v)) f (fields (predictorFields (predictorOf v))) [] (predictorOf v) r
+    part-read predictorBits (predictorLegal (usedImage I) (predictorOf v)) f (fields (predictorFields (predictorOf v))) [] (predictorOf v) r
     (length-predictor P) m (rw (i, predictor-written)) refl
     ∙ ap (λ (x : Predictor). got x r) i
 
@@ -136,7 +136,7 @@ pub read-predictor : (I : Image) (l r : List Bool) (P : Predictor) → readPredi
 unfolding readPredictor
 read-predictor I l r P e =
     let v : List ℕ = split predictorWidths l in
-    let p = read-part 40 (predictorLegal I (predictorOf v)) (fields (predictorFields (predictorOf v))) [] (predictorOf v) l P r e in
+    let p = read-part predictorBits (predictorLegal I (predictorOf v)) (fields (predictorFields (predictorOf v))) [] (predictorOf v) l P r e in
     rw (← p .value) (record { legal = p .test; used = predictor-named v; same = p .same })
 
 -- ---- the coder
@@ -148,7 +148,7 @@ coder-read I C r s e =
     let v : List ℕ = split coderWidths (f ++ r) in
     let i : coderOf v ≡ usedCoder C = coder-back I C r (legal-image I s) (legal-coder I C e) in
     let m : coderLegal (usedImage I) (coderOf v) ≡ true = ap (coderLegal (usedImage I)) i ∙ coder-legal-used I C ∙ e in
-    part-read 16 (coderLegal (usedImage I) (coderOf v)) f (fields (coderFields (coderOf v))) [] (coderOf v) r
+    part-read coderBits (coderLegal (usedImage I) (coderOf v)) f (fields (coderFields (coderOf v))) [] (coderOf v) r
     (length-coder C) m (rw (i, coder-written)) refl
     ∙ ap (λ (x : Coder). got x r) i
 
@@ -161,7 +161,7 @@ pub read-coder : (I : Image) (l r : List Bool) (C : Coder) → readCoder I l ≡
 unfolding readCoder
 read-coder I l r C e =
     let v : List ℕ = split coderWidths l in
-    let p = read-part 16 (coderLegal I (coderOf v)) (fields (coderFields (coderOf v))) [] (coderOf v) l C r e in
+    let p = read-part coderBits (coderLegal I (coderOf v)) (fields (coderFields (coderOf v))) [] (coderOf v) l C r e in
     rw (← p .value) (record { legal = p .test; used = coder-named v; same = p .same })
 
 -- ---- a table

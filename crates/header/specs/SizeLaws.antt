@@ -17,7 +17,7 @@ use Rattle.settings.specs.declared.Settings.{Settings}
 use Rattle.settings.specs.Lists.{sumBelow}
 use Rattle.settings.specs.Legal.{predictorLegal}
 use Rattle.settings.specs.Limits.{mostBands, mostComponents, mostWeightBits, mostParameterBits}
-use Rattle.settings.specs.LegalLaws.{LegalPredictor, legal-predictor}
+use Rattle.settings.specs.LegalLaws.{LegalPredictor, LegalSettings, legal-predictor, predictor-legal}
 use Rattle.settings.specs.Tables.{componentCount}
 use Rattle.settings.specs.TableLaws.{components-fit}
 use Rattle.header.specs.Tables.{componentsBefore, weightTable, accumulatorTable}
@@ -25,7 +25,8 @@ use Rattle.header.specs.TableLaws.{length-weights, length-accumulators}
 use Rattle.header.specs.PartLaws.{length-image, length-predictor, length-coder}
 use Rattle.header.specs.Write.{weightPart, accumulatorPart, header}
 use Rattle.header.specs.HeaderLaws.{header-whole}
-use Rattle.header.specs.Sizes.{padded, weightBits, weightsSize, accumulatorsSize, headerSize}
+use Rattle.header.specs.Parts.{fixedBits}
+use Rattle.header.specs.Sizes.{padded, weightBits, weightsSize, accumulatorsSize, headerSize, mostHeaderBits}
 
 -- a part that a flag brings
 pub cond-true : {A : Type 0} (b : Bool) (x y : A) → b ≡ true → cond b x y ≡ x
@@ -62,15 +63,23 @@ if-most : (b : Bool) (n k : ℕ) → (b ≡ true → n ≤ k) → cond b (padded
 if-most true n k h = omega (arith, h refl, filling-lt 8 n (omega arith))
 if-most false n k h = omega arith
 
-pub weights-size-most : (I : Image) (P : Predictor) → predictorLegal I P ≡ true → I .nz ≤ mostBands → weightsSize I P ≤ mostWeightBits + 7
+-- of as many bands as the image has
+pub weights-at-most : (I : Image) (P : Predictor) → predictorLegal I P ≡ true → weightsSize I P ≤ 22 * (18 * I .nz) + 7
 unfolding weightsSize
-weights-size-most I P e h =
-    if-most (P .custom) (weightBits I P) mostWeightBits
-    (λ c. bits-most (P .precision) (componentsBefore P (I .nz)) (precision-most I P e c) (omega (arith, components-most P (I .nz) (legal-predictor I P e .bands-most))))
+weights-at-most I P e =
+    if-most (P .custom) (weightBits I P) (22 * (18 * I .nz))
+    (λ c. mul-le-mul (precision-most I P e c) (components-most P (I .nz) (legal-predictor I P e .bands-most)))
+
+pub accumulators-at-most : (I : Image) (C : Coder) → accumulatorsSize I C ≤ 4 * I .nz + 7
+unfolding accumulatorsSize
+accumulators-at-most I C = if-most (C .tabled) (4 * I .nz) (4 * I .nz) (λ c. omega arith)
+
+-- of as many bands as an image may have
+pub weights-size-most : (I : Image) (P : Predictor) → predictorLegal I P ≡ true → I .nz ≤ mostBands → weightsSize I P ≤ mostWeightBits + 7
+weights-size-most I P e h = omega (arith, weights-at-most I P e)
 
 pub accumulators-size-most : (I : Image) (C : Coder) → I .nz ≤ mostBands → accumulatorsSize I C ≤ mostParameterBits + 7
-unfolding accumulatorsSize
-accumulators-size-most I C h = if-most (C .tabled) (4 * I .nz) mostParameterBits (λ c. omega arith)
+accumulators-size-most I C h = omega (arith, accumulators-at-most I C)
 
 -- ---- the header's length
 
@@ -99,6 +108,16 @@ unfolding header headerSize
 length-header S tables =
     simp (length-append, length-image, length-predictor, length-coder) (omega (arith, length-weight-part S tables, length-accumulator-part S tables))
 
-pub bytes-of-header : (S : Settings) (w a : ℕ) → w ≡ weightsSize (S .image) (S .predictor) → a ≡ accumulatorsSize (S .image) (S .coder) → (tables : List ℤ) → 8 * ((152 + w + a) / 8) ≡ length (header S tables)
+pub bytes-of-header : (S : Settings) (w a : ℕ) → w ≡ weightsSize (S .image) (S .predictor) → a ≡ accumulatorsSize (S .image) (S .coder) → (tables : List ℤ) → 8 * ((fixedBits + w + a) / 8) ≡ length (header S tables)
 unfolding headerSize
 bytes-of-header S w a p q tables = omega (arith, length-header S tables, header-whole S tables)
+
+-- within the limits, and for any number of bands
+pub header-at-most : (S : Settings) (tables : List ℤ) → LegalSettings S → length (header S tables) ≤ fixedBits + (22 * (18 * S .image .nz) + 7) + (4 * S .image .nz + 7)
+unfolding headerSize
+header-at-most S tables l =
+    let w = weights-at-most (S .image) (S .predictor) (predictor-legal (S .image) (S .predictor) (l .predictor)) in
+    omega (arith, length-header S tables, accumulators-at-most (S .image) (S .coder))
+
+pub header-bits-most : (S : Settings) (tables : List ℤ) → LegalSettings S → S .image .nz ≤ mostBands → length (header S tables) ≤ mostHeaderBits
+header-bits-most S tables l h = omega (arith, header-at-most S tables l)

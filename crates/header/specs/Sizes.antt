@@ -6,6 +6,8 @@ use Rattle.settings.specs.declared.Image.{Image}
 use Rattle.settings.specs.declared.Predictor.{Predictor}
 use Rattle.settings.specs.declared.Coder.{Coder}
 use Rattle.settings.specs.declared.Settings.{Settings}
+use Rattle.settings.specs.Limits.{mostWeightBits, mostParameterBits}
+use Rattle.header.specs.Parts.{fixedBits}
 use Rattle.header.specs.Tables.{componentsBefore}
 
 -- n bits and the fill behind them
@@ -26,4 +28,8 @@ accumulatorsSize I C = cond (C .tabled) (padded (4 * I .nz)) 0
 
 -- the header's three fixed parts and its two tables
 unfoldable pub headerSize : Settings → ℕ
-headerSize S = 152 + weightsSize (S .image) (S .predictor) + accumulatorsSize (S .image) (S .coder)
+headerSize S = fixedBits + weightsSize (S .image) (S .predictor) + accumulatorsSize (S .image) (S .coder)
+
+-- the most bits of a header within the house limits
+abbrev pub mostHeaderBits : ℕ
+mostHeaderBits = fixedBits + (mostWeightBits + 7) + (mostParameterBits + 7)

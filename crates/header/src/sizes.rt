@@ -16,6 +16,15 @@ use settings::Predictor;
 use settings::Settings;
 use settings::tables::component_count;
 
+// The bits of the image part, where the predictor part ends, the bits of the coder part, and those of all three (specs/Parts.antt).
+pub const IMAGE_BITS: usize = 96;
+
+pub const PREDICTOR_END: usize = 136;
+
+pub const CODER_BITS: usize = 16;
+
+pub const FIXED_BITS: usize = 152;
+
 // The components of all bands before `bands`.
 fn components_before(p: Predictor, bands: usize) -> usize
     requires { ⌜ (p .bands ≤ 15) × (bands ≤ mostBands) ⌝ }
@@ -73,5 +82,5 @@ pub fn header_bytes(s: Settings) -> usize
     requires { ⌜ (settingsLegal s ≡ true) × (limited (s .image) ≡ true) ⌝ }
     ensures { λ r. ⌜ ((tables : List ℤ) → 8 * r ≡ length (header s tables)) ⌝ }
 {
-    (152 + weights_size(s.image, s.predictor) + accumulators_size(s.image, s.coder)) / 8
+    (FIXED_BITS + weights_size(s.image, s.predictor) + accumulators_size(s.image, s.coder)) / 8
 }

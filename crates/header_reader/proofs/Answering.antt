@@ -22,7 +22,7 @@ use Rattle.settings.specs.declared.Predictor.{Predictor}
 use Rattle.settings.specs.declared.Coder.{Coder}
 use Rattle.settings.specs.Legal.{imageLegal, predictorLegal, coderLegal, limited}
 use Rattle.header.specs.Fields.{split}
-use Rattle.header.specs.Parts.{imageWidths, imageOf, predictorWidths, predictorOf, coderWidths, coderOf}
+use Rattle.header.specs.Parts.{imageWidths, imageOf, predictorWidths, predictorOf, coderWidths, coderOf, imageBits, predictorBits, coderBits}
 use Rattle.header.specs.Plain.{imagePlain, predictorPlain, coderPlain}
 use Rattle.header.specs.Read.{present, readImage, readPredictor, readCoder}
 use Rattle.header_reader.specs.Answers.{answered}
@@ -74,7 +74,7 @@ pub legal-part : {A : Type 0} {x : Read A} {n : ℕ} {pass : Bool} {a : A} {l : 
 legal-part s e = onwards s e ∙ no-test _
 
 -- the image's further tests
-module _ {x : Read Image} {pass : Bool} {kind : ℕ} {I : Image} {l : List Bool} (s : PartSeen x 96 pass (eqb kind 1 ⇒ BlockCoder ∷ not (limited I) ⇒ HouseLimit ∷ []) I l) (e : not pass ≡ false) where
+module _ {x : Read Image} {pass : Bool} {kind : ℕ} {I : Image} {l : List Bool} (s : PartSeen x imageBits pass (eqb kind 1 ⇒ BlockCoder ∷ not (limited I) ⇒ HouseLimit ∷ []) I l) (e : not pass ≡ false) where
   pub block-coder : kind ≡ 1 → x ≡ refused BlockCoder
   unfolding firstHit
   block-coder q = onwards s e ∙ rw (eq-eqb kind 1 q)
@@ -84,26 +84,26 @@ module _ {x : Read Image} {pass : Bool} {kind : ℕ} {I : Image} {l : List Bool}
     unfolding firstHit
     past-limit h = onwards s e ∙ rw (ne-eqb kind 1 q, ← isSmall, h)
 
-    pub whole-image : not small ≡ false → x ≡ got I (drop 96 l)
+    pub whole-image : not small ≡ false → x ≡ got I (drop imageBits l)
     unfolding firstHit
     whole-image h = onwards s e ∙ rw (ne-eqb kind 1 q, ← isSmall, h)
 
 -- ---- the three parts as such
 
-pub image-part : (l : List Bool) (v : List ℕ) (I : Image) (legal plain : Bool) → ltb (length l) 96 ≡ false → v ≡ split imageWidths l → I ≡ imageOf v → legal ≡ imageLegal I → plain ≡ imagePlain v
-    → PartSeen (readImage l) 96 (legal && plain) (eqb (getD v 11 0) 1 ⇒ BlockCoder ∷ not (limited I) ⇒ HouseLimit ∷ []) I l
+pub image-part : (l : List Bool) (v : List ℕ) (I : Image) (legal plain : Bool) → ltb (length l) imageBits ≡ false → v ≡ split imageWidths l → I ≡ imageOf v → legal ≡ imageLegal I → plain ≡ imagePlain v
+    → PartSeen (readImage l) imageBits (legal && plain) (eqb (getD v 11 0) 1 ⇒ BlockCoder ∷ not (limited I) ⇒ HouseLimit ∷ []) I l
 unfolding readImage
-image-part l v I legal plain h e q b d = record { there = h; is = rw (b, d, q, e, image-plain l (ltb-false (length l) 96 h)) }
+image-part l v I legal plain h e q b d = record { there = h; is = rw (b, d, q, e, image-plain l (ltb-false (length l) imageBits h)) }
 
-pub predictor-part : (I : Image) (l : List Bool) (v : List ℕ) (P : Predictor) (legal plain : Bool) → ltb (length l) 40 ≡ false → v ≡ split predictorWidths l → P ≡ predictorOf v
-    → legal ≡ predictorLegal I P → plain ≡ predictorPlain v → PartSeen (readPredictor I l) 40 (legal && plain) [] P l
+pub predictor-part : (I : Image) (l : List Bool) (v : List ℕ) (P : Predictor) (legal plain : Bool) → ltb (length l) predictorBits ≡ false → v ≡ split predictorWidths l → P ≡ predictorOf v
+    → legal ≡ predictorLegal I P → plain ≡ predictorPlain v → PartSeen (readPredictor I l) predictorBits (legal && plain) [] P l
 unfolding readPredictor
-predictor-part I l v P legal plain h e q b d = record { there = h; is = rw (b, d, q, e, predictor-plain I l (ltb-false (length l) 40 h)) }
+predictor-part I l v P legal plain h e q b d = record { there = h; is = rw (b, d, q, e, predictor-plain I l (ltb-false (length l) predictorBits h)) }
 
-pub coder-part : (I : Image) (l : List Bool) (v : List ℕ) (C : Coder) (legal plain : Bool) → ltb (length l) 16 ≡ false → v ≡ split coderWidths l → C ≡ coderOf v
-    → legal ≡ coderLegal I C → plain ≡ coderPlain v → PartSeen (readCoder I l) 16 (legal && plain) [] C l
+pub coder-part : (I : Image) (l : List Bool) (v : List ℕ) (C : Coder) (legal plain : Bool) → ltb (length l) coderBits ≡ false → v ≡ split coderWidths l → C ≡ coderOf v
+    → legal ≡ coderLegal I C → plain ≡ coderPlain v → PartSeen (readCoder I l) coderBits (legal && plain) [] C l
 unfolding readCoder
-coder-part I l v C legal plain h e q b d = record { there = h; is = rw (b, d, q, e, coder-plain l (ltb-false (length l) 16 h)) }
+coder-part I l v C legal plain h e q b d = record { there = h; is = rw (b, d, q, e, coder-plain l (ltb-false (length l) coderBits h)) }
 
 -- ---- from an answer back to what was read
 

@@ -13,6 +13,7 @@ use Rattle.settings.specs.declared.Image.{Image}
 use Rattle.settings.specs.declared.Predictor.{Predictor}
 use Rattle.settings.specs.declared.Coder.{Coder}
 use Rattle.settings.specs.declared.Settings.{Settings}
+use Rattle.header.specs.Parts.{imageBits, coderBits, predictorEnd}
 use Rattle.header_reader.specs.declared.read.ImageRead.the-variants as image
 use Rattle.header_reader.specs.declared.read.PredictorRead.the-variants as predictor
 use Rattle.header_reader.specs.declared.read.CoderRead.the-variants as coder
@@ -24,7 +25,7 @@ use Rattle.header_values.specs.Progress.{ImageDone, PredictorDone, WeightsDone,
 use Rattle.header_values.proofs.Positions.{behind, image-got, predictor-got, weights-got, coder-got, coder-facts, header-got}
 use Rattle.header_reader.specs.Answers.{imageRead, predictorRead, coderRead, tableRead, Begins}
 use Rattle.header_reader.proofs.Answering.{Got, was-got, was-refused}
-use Rattle.header.proofs.SizeLaws.{length-accumulators-part}
+use Rattle.header.specs.SizeLaws.{length-accumulators-part}
 
 -- ---- what an answer says
 
@@ -58,17 +59,17 @@ image-done F I e =
     image-got F (g .behind) I (g .is)
 
 module _ (F : List Bool) (I : Image) (P : Predictor) where
-  pub predictor-done : ImageDone F I → predictor.Predictor P ≡ predictorRead (readPredictor I (drop 96 F)) → PredictorDone F I P
+  pub predictor-done : ImageDone F I → predictor.Predictor P ≡ predictorRead (readPredictor I (drop imageBits F)) → PredictorDone F I P
   predictor-done d e =
-      let g = was-got predictor.Predictor predictor.Refused (λ a b e. cc) (λ r s e. cc) (λ a r e. cc) (readPredictor I (drop 96 F)) P e in
+      let g = was-got predictor.Predictor predictor.Refused (λ a b e. cc) (λ r s e. cc) (λ a r e. cc) (readPredictor I (drop imageBits F)) P e in
       predictor-got F I P (g .behind) d (g .is)
 
-  pub weights-done : PredictorDone F I P → checked.Passed ≡ tableRead (readWeights I P (drop 136 F)) → WeightsDone F I P (136 + weightsSize I P)
+  pub weights-done : PredictorDone F I P → checked.Passed ≡ tableRead (readWeights I P (drop predictorEnd F)) → WeightsDone F I P (predictorEnd + weightsSize I P)
   weights-done d e =
-      let g = table-passed (readWeights I P (drop 136 F)) e in
+      let g = table-passed (readWeights I P (drop predictorEnd F)) e in
       weights-got F I P (g .table) (g .behind) d (g .is)
 
-pub coder-done : (F : List Bool) (S : Settings) (at : ℕ) → WeightsDone F (S .image) (S .predictor) at → coder.Coder (S .coder) ≡ coderRead (readCoder (S .image) (drop at F)) → CoderDone F S (at + 16)
+pub coder-done : (F : List Bool) (S : Settings) (at : ℕ) → WeightsDone F (S .image) (S .predictor) at → coder.Coder (S .coder) ≡ coderRead (readCoder (S .image) (drop at F)) → CoderDone F S (at + coderBits)
 coder-done F S at d e =
     let g = was-got coder.Coder coder.Refused (λ a b e. cc) (λ r s e. cc) (λ a r e. cc) (readCoder (S .image) (drop at F)) (S .coder) e in
     coder-got F S at (g .behind) d (g .is)
@@ -80,11 +81,11 @@ module _ (F : List Bool) (w : Refusal) where
   unfolding readHeader
   refused-at-image e = rw e
 
-  pub refused-at-predictor : (I : Image) → ImageDone F I → readPredictor I (drop 96 F) ≡ refused w → readHeader F ≡ refused w
+  pub refused-at-predictor : (I : Image) → ImageDone F I → readPredictor I (drop imageBits F) ≡ refused w → readHeader F ≡ refused w
   unfolding readHeader
   refused-at-predictor I d e = rw (d .image, e)
 
-  pub refused-at-weights : (I : Image) (P : Predictor) → PredictorDone F I P → readWeights I P (drop 136 F) ≡ refused w → readHeader F ≡ refused w
+  pub refused-at-weights : (I : Image) (P : Predictor) → PredictorDone F I P → readWeights I P (drop predictorEnd F) ≡ refused w → readHeader F ≡ refused w
   unfolding readHeader
   refused-at-weights I P d e = rw (d .before .image, d .predictor, e)
 

@@ -17,7 +17,7 @@ use Rattle.settings.specs.LegalLaws.{legal-predictor, Power}
 use Rattle.settings.specs.Truths.{parts, whole, or-else}
 use Rattle.header.specs.Fields.{fields, split, same, flag}
 use Rattle.header.specs.FieldLaws.{widths, values, total, split-lt, split-same, same-split}
-use Rattle.header.specs.Parts.{imageFields, imageWidths, imageOf, coderType, predictorFields, predictorWidths, predictorOf, coderFields, coderWidths, coderOf, exponentOf, unwrapped, isOne}
+use Rattle.header.specs.Parts.{imageFields, imageWidths, imageOf, coderType, predictorFields, predictorWidths, predictorOf, coderFields, coderWidths, coderOf, exponentOf, unwrapped, isOne, imageBits, predictorBits, coderBits}
 use Rattle.header.specs.PartLaws.{exponent-power}
 use Rattle.header.specs.Plain.{imagePlain, predictorPlain, coderPlain}
 
@@ -77,7 +77,7 @@ ones-back false v h e = small 4 v h
 
 -- ---- the image
 
-image-forth : (l : List Bool) → same (take 96 l) (fields (imageFields (imageOf (split imageWidths l)) (coderType (split imageWidths l)))) ≡ true → imagePlain (split imageWidths l) ≡ true
+image-forth : (l : List Bool) → same (take imageBits l) (fields (imageFields (imageOf (split imageWidths l)) (coderType (split imageWidths l)))) ≡ true → imagePlain (split imageWidths l) ≡ true
 unfolding imageFields imageOf widths values total
 image-forth l e =
     let v : List ℕ = split imageWidths l in
@@ -86,7 +86,7 @@ image-forth l e =
     whole (eqb (getD v 5 0) 0) ((not (isOne (getD v 7 0)) || eqb (getD v 8 0) 0) ∷ eqb (getD v 9 0) 0 ∷ eqb (getD v 12 0) 0 ∷ [])
     (eq-eqb _ 0 (at 5), (unless-forth (isOne (getD v 7 0)) (getD v 8 0) (imageOf v .interleave) (at 8), (eq-eqb _ 0 (at 9), (eq-eqb _ 0 (at 12), tt))))
 
-image-back : (l : List Bool) → 96 ≤ length l → imagePlain (split imageWidths l) ≡ true → same (take 96 l) (fields (imageFields (imageOf (split imageWidths l)) (coderType (split imageWidths l)))) ≡ true
+image-back : (l : List Bool) → imageBits ≤ length l → imagePlain (split imageWidths l) ≡ true → same (take imageBits l) (fields (imageFields (imageOf (split imageWidths l)) (coderType (split imageWidths l)))) ≡ true
 unfolding imageFields imageOf widths values total split
 image-back l h e =
     let v : List ℕ = split imageWidths l in
@@ -98,7 +98,7 @@ image-back l h e =
     ∷ wrapped 4 (n 6) (lt 6) i ∷ flagged (n 7) (lt 7) i ∷ unless-back (isOne (n 7)) (n 8) (lt 8) (k .1 .0) i ∷ eqb-true (n 9) 0 (k .1 .1 .0) i ∷ wrapped 3 (n 10) (lt 10) i
     ∷ small 1 (n 11) (lt 11) i ∷ eqb-true (n 12) 0 (k .1 .1 .1 .0) i ∷ [])
 
-pub image-plain : (l : List Bool) → 96 ≤ length l → same (take 96 l) (fields (imageFields (imageOf (split imageWidths l)) (coderType (split imageWidths l)))) ≡ imagePlain (split imageWidths l)
+pub image-plain : (l : List Bool) → imageBits ≤ length l → same (take imageBits l) (fields (imageFields (imageOf (split imageWidths l)) (coderType (split imageWidths l)))) ≡ imagePlain (split imageWidths l)
 image-plain l h = both _ _ (image-forth l) (image-back l h)
 
 -- ---- the predictor
@@ -122,7 +122,7 @@ raised-back v h =
 abbrev predictorTests : List ℕ → List Bool
 predictorTests v = eqb (getD v 3 0) 0 ∷ eqb (getD v 5 0) 0 ∷ eqb (getD v 11 0) 0 ∷ eqb (getD v 13 0) (getD v 12 0) ∷ (isOne (getD v 12 0) || eqb (getD v 14 0) 0) ∷ []
 
-predictor-forth : (l : List Bool) → same (take 40 l) (fields (predictorFields (predictorOf (split predictorWidths l)))) ≡ true → predictorPlain (split predictorWidths l) ≡ true
+predictor-forth : (l : List Bool) → same (take predictorBits l) (fields (predictorFields (predictorOf (split predictorWidths l)))) ≡ true → predictorPlain (split predictorWidths l) ≡ true
 unfolding predictorFields predictorOf widths values total
 predictor-forth l e =
     let v : List ℕ = split predictorWidths l in
@@ -131,8 +131,8 @@ predictor-forth l e =
     whole (eqb (getD v 0 0) 0) (predictorTests v)
     (eq-eqb _ 0 (at 0), (eq-eqb _ 0 (at 3), (eq-eqb _ 0 (at 5), (eq-eqb _ 0 (at 11), (eq-eqb (getD v 13 0) (getD v 12 0) (at 13 ∙ sym (at 12)), (where-forth (isOne (getD v 12 0)) (getD v 14 0) (predictorOf v .precision) (at 14), tt))))))
 
-predictor-back : (I : Image) (l : List Bool) → 40 ≤ length l → predictorLegal I (predictorOf (split predictorWidths l)) ≡ true → predictorPlain (split predictorWidths l) ≡ true
-    → same (take 40 l) (fields (predictorFields (predictorOf (split predictorWidths l)))) ≡ true
+predictor-back : (I : Image) (l : List Bool) → predictorBits ≤ length l → predictorLegal I (predictorOf (split predictorWidths l)) ≡ true → predictorPlain (split predictorWidths l) ≡ true
+    → same (take predictorBits l) (fields (predictorFields (predictorOf (split predictorWidths l)))) ≡ true
 unfolding predictorFields predictorOf widths values total split
 predictor-back I l h g e =
     let v : List ℕ = split predictorWidths l in
@@ -145,20 +145,20 @@ predictor-back I l h g e =
     ∷ raised-back (n 9) (lt 9) i ∷ raised-back (n 10) (lt 10) i ∷ eqb-true (n 11) 0 (k .1 .1 .1 .0) i ∷ flagged (n 12) (lt 12) i
     ∷ (eqb-true (n 13) (n 12) (k .1 .1 .1 .1 .0) ∙ flagged (n 12) (lt 12)) i ∷ where-back (isOne (n 12)) (n 14) (lt 14) (k .1 .1 .1 .1 .1 .0) i ∷ [])
 
-pub predictor-plain : (I : Image) (l : List Bool) → 40 ≤ length l
-    → (predictorLegal I (predictorOf (split predictorWidths l)) && same (take 40 l) (fields (predictorFields (predictorOf (split predictorWidths l)))))
+pub predictor-plain : (I : Image) (l : List Bool) → predictorBits ≤ length l
+    → (predictorLegal I (predictorOf (split predictorWidths l)) && same (take predictorBits l) (fields (predictorFields (predictorOf (split predictorWidths l)))))
     ≡ (predictorLegal I (predictorOf (split predictorWidths l)) && predictorPlain (split predictorWidths l))
 predictor-plain I l h = and-same _ _ _ (λ g. both _ _ (predictor-forth l) (predictor-back I l h g))
 
 -- ---- the coder
 
-coder-forth : (l : List Bool) → same (take 16 l) (fields (coderFields (coderOf (split coderWidths l)))) ≡ true → coderPlain (split coderWidths l) ≡ true
+coder-forth : (l : List Bool) → same (take coderBits l) (fields (coderFields (coderOf (split coderWidths l)))) ≡ true → coderPlain (split coderWidths l) ≡ true
 unfolding coderFields coderOf widths values total
 coder-forth l e =
     let v : List ℕ = split coderWidths l in
     ones-forth (isOne (getD v 4 0)) (getD v 3 0) (coderOf v .constant) (ap (λ (x : List ℕ). getD x 3 0) (same-split (coderFields (coderOf v)) l e))
 
-coder-back : (l : List Bool) → 16 ≤ length l → coderPlain (split coderWidths l) ≡ true → same (take 16 l) (fields (coderFields (coderOf (split coderWidths l)))) ≡ true
+coder-back : (l : List Bool) → coderBits ≤ length l → coderPlain (split coderWidths l) ≡ true → same (take coderBits l) (fields (coderFields (coderOf (split coderWidths l)))) ≡ true
 unfolding coderFields coderOf widths values total split
 coder-back l h e =
     let v : List ℕ = split coderWidths l in
@@ -167,5 +167,5 @@ coder-back l h e =
     split-same (coderFields (coderOf v)) l h
     (λ i. wrapped 5 (n 0) (lt 0) i ∷ shifted 3 (n 1) (lt 1) i ∷ wrapped 3 (n 2) (lt 2) i ∷ ones-back (isOne (n 4)) (n 3) (lt 3) e i ∷ flagged (n 4) (lt 4) i ∷ [])
 
-pub coder-plain : (l : List Bool) → 16 ≤ length l → same (take 16 l) (fields (coderFields (coderOf (split coderWidths l)))) ≡ coderPlain (split coderWidths l)
+pub coder-plain : (l : List Bool) → coderBits ≤ length l → same (take coderBits l) (fields (coderFields (coderOf (split coderWidths l)))) ≡ coderPlain (split coderWidths l)
 coder-plain l h = both _ _ (coder-forth l) (coder-back l h)

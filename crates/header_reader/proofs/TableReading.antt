@@ -23,7 +23,7 @@ use Rattle.header.specs.FieldLaws.{same-true, same-refl}
 use Rattle.header.specs.Tables.{numberAt}
 use Rattle.header.specs.Read.{present, readTable, readWeights, readAccumulators}
 use Rattle.header.specs.Sizes.{padded, weightBits}
-use Rattle.header.proofs.SizeLaws.{cond-true}
+use Rattle.header.specs.SizeLaws.{cond-true}
 use Rattle.header_values.proofs.Positions.{number-in-file}
 use Rattle.header_reader.proofs.PlainLaws.{both}
 use Rattle.header_reader.proofs.Answering.{PartSeen, missing, absent}

@@ -9,12 +9,15 @@ ghost use Rattle.settings.specs.Legal.{predictorLegal};
 ghost use Rattle.settings.specs.Limits.{mostBands, tableCeiling};
 ghost use Rattle.settings.specs.Tables.{every};
 ghost use Rattle.header.specs.Fields.{split};
-ghost use Rattle.header.specs.Parts.{imageWidths, predictorWidths, coderWidths};
+ghost use Rattle.header.specs.Parts.{imageWidths, predictorWidths, coderWidths, imageBits, coderBits, predictorEnd};
 ghost use Rattle.header.specs.Read.{readImage, readPredictor, readWeights, readCoder, readAccumulators};
 ghost use Rattle.header_values.specs.Progress.{ImageDone, PredictorDone, WeightsDone, CoderDone};
 ghost use Rattle.header_reader.specs.Answers.{imageRead, predictorRead, coderRead, tableRead, HeaderMeans};
 use header::fields::number_at;
 use header::fields::numbers;
+use header::sizes::CODER_BITS;
+use header::sizes::IMAGE_BITS;
+use header::sizes::PREDICTOR_END;
 use header::sizes::accumulators_size;
 use header::sizes::padded;
 use header::sizes::weight_bits;
@@ -68,7 +71,7 @@ fn ends_before(file: &[u8], end: usize) -> bool
 
 // The numbers of table 5-1.
 fn image_numbers(file: &[u8]) -> [u32; 13]
-    requires { ⌜ 96 ≤ length (unpack (now file)) ⌝ }
+    requires { ⌜ imageBits ≤ length (unpack (now file)) ⌝ }
     ensures { λ r. ⌜ r ≡ split imageWidths (unpack (now (file .entry))) ⌝ }
 {
     let mut values = [0u32; 13];
@@ -85,7 +88,7 @@ fn image_numbers(file: &[u8]) -> [u32; 13]
 fn read_image(file: &[u8]) -> ImageRead
     ensures { λ r. ⌜ r ≡ imageRead (readImage (unpack (now (file .entry)))) ⌝ }
 {
-    if ends_before(file, 96) {
+    if ends_before(file, IMAGE_BITS) {
         return ImageRead::Refused(Refusal::EndsInHeader);
     }
     let v = image_numbers(file);
@@ -104,13 +107,13 @@ fn read_image(file: &[u8]) -> ImageRead
 
 // The numbers of table 5-2.
 fn predictor_numbers(file: &[u8]) -> [u32; 15]
-    requires { ⌜ 136 ≤ length (unpack (now file)) ⌝ }
-    ensures { λ r. ⌜ r ≡ split predictorWidths (drop 96 (unpack (now (file .entry)))) ⌝ }
+    requires { ⌜ predictorEnd ≤ length (unpack (now file)) ⌝ }
+    ensures { λ r. ⌜ r ≡ split predictorWidths (drop imageBits (unpack (now (file .entry)))) ⌝ }
 {
     let mut values = [0u32; 15];
     numbers(
         file,
-        96,
+        IMAGE_BITS,
         &[2, 4, 1, 1, 1, 1, 6, 4, 4, 4, 4, 1, 1, 1, 5],
         &mut values,
     );
@@ -119,9 +122,9 @@ fn predictor_numbers(file: &[u8]) -> [u32; 15]
 
 // The five bytes behind: present, then their fields.
 fn read_predictor(file: &[u8], image: Image) -> PredictorRead
-    ensures { λ r. ⌜ r ≡ predictorRead (readPredictor image (drop 96 (unpack (now (file .entry))))) ⌝ }
+    ensures { λ r. ⌜ r ≡ predictorRead (readPredictor image (drop imageBits (unpack (now (file .entry))))) ⌝ }
 {
-    if ends_before(file, 136) {
+    if ends_before(file, PREDICTOR_END) {
         return PredictorRead::Refused(Refusal::EndsInHeader);
     }
     let v = predictor_numbers(file);
@@ -134,7 +137,7 @@ fn read_predictor(file: &[u8], image: Image) -> PredictorRead
 
 // The numbers of table 5-3.
 fn coder_numbers(file: &[u8], at: usize) -> [u32; 5]
-    requires { ⌜ (at ≤ 2 * tableCeiling) × (at + 16 ≤ length (unpack (now file))) ⌝ }
+    requires { ⌜ (at ≤ 2 * tableCeiling) × (at + coderBits ≤ length (unpack (now file))) ⌝ }
     ensures { λ r. ⌜ r ≡ split coderWidths (drop at (unpack (now (file .entry)))) ⌝ }
 {
     let mut values = [0u32; 5];
@@ -147,7 +150,7 @@ fn read_coder(file: &[u8], at: usize, image: Image) -> CoderRead
     requires { ⌜ at ≤ 2 * tableCeiling ⌝ }
     ensures { λ r. ⌜ r ≡ coderRead (readCoder image (drop at (unpack (now (file .entry))))) ⌝ }
 {
-    if ends_before(file, at + 16) {
+    if ends_before(file, at + CODER_BITS) {
         return CoderRead::Refused(Refusal::EndsInHeader);
     }
     let v = coder_numbers(file, at);
@@ -171,18 +174,18 @@ fn fill_clear(file: &[u8], at: usize, width: usize) -> bool
 
 // The weight table, where there is one: present, then its fill. Any value is a weight.
 fn read_weights(file: &[u8], image: Image, predictor: Predictor) -> Checked
-    requires { ⌜ (predictorLegal image predictor ≡ true) × (image .nz ≤ mostBands) × (136 ≤ length (unpack (now file))) ⌝ }
-    ensures { λ r. ⌜ r ≡ tableRead (readWeights image predictor (drop 136 (unpack (now (file .entry))))) ⌝ }
+    requires { ⌜ (predictorLegal image predictor ≡ true) × (image .nz ≤ mostBands) × (predictorEnd ≤ length (unpack (now file))) ⌝ }
+    ensures { λ r. ⌜ r ≡ tableRead (readWeights image predictor (drop predictorEnd (unpack (now (file .entry))))) ⌝ }
 {
     if !predictor.custom {
         return Checked::Passed;
     }
     let n = weight_bits(image, predictor);
     let size = padded(n);
-    if ends_before(file, 136 + size) {
+    if ends_before(file, PREDICTOR_END + size) {
         return Checked::Refused(Refusal::EndsInHeader);
     }
-    if !fill_clear(file, 136 + n, size - n) {
+    if !fill_clear(file, PREDICTOR_END + n, size - n) {
         return Checked::Refused(Refusal::IllegalField);
     }
     Checked::Passed
@@ -250,7 +253,7 @@ fn behind_weights(file: &[u8], image: Image, predictor: Predictor, at: usize) ->
                 predictor,
                 coder,
             },
-            at + 16,
+            at + CODER_BITS,
         ),
         CoderRead::Refused(why) => HeaderRead::Refused(why),
     }
@@ -266,7 +269,7 @@ fn behind_predictor(file: &[u8], image: Image, predictor: Predictor) -> HeaderRe
             file,
             image,
             predictor,
-            136 + weights_size(image, predictor),
+            PREDICTOR_END + weights_size(image, predictor),
         ),
         Checked::Refused(why) => HeaderRead::Refused(why),
     }

@@ -16,14 +16,14 @@ use Rattle.settings.specs.Legal.{imageLegal, predictorLegal}
 use Rattle.settings.specs.Limits.{mostBands, mostWeightBits}
 use Rattle.settings.specs.LegalLaws.{legal-image, limited-facts}
 use Rattle.header.specs.Fields.{fields}
-use Rattle.header.specs.Parts.{imageFields, predictorFields, coderFields}
+use Rattle.header.specs.Parts.{imageFields, predictorFields, coderFields, imageBits, predictorBits, coderBits, predictorEnd, fixedBits}
 use Rattle.header.specs.PartLaws.{length-image, length-predictor, length-coder}
 use Rattle.header.specs.Tables.{numberAt, tablesOf}
 use Rattle.header.specs.Read.{readImage, readPredictor, readWeights, readCoder, readAccumulators, readHeader}
 use Rattle.header.specs.ReadLaws.{read-image, read-predictor, read-weights, read-coder}
 use Rattle.header.specs.Sizes.{weightsSize}
 use Rattle.header_values.specs.Progress.{ImageDone, PredictorDone, WeightsDone, CoderDone}
-use Rattle.header.proofs.SizeLaws.{weights-size-most, length-weights-part}
+use Rattle.header.specs.SizeLaws.{weights-size-most, length-weights-part}
 
 -- ---- the position behind n bits f
 
@@ -43,10 +43,10 @@ pub record ImageFacts (F : List Bool) (I : Image) : Type 0 where
   pub legal : imageLegal I ≡ true
   pub depth : 2 ≤ I .depth
   pub bands : I .nz ≤ mostBands
-  pub fits : 96 ≤ length F
+  pub fits : imageBits ≤ length F
 
-image-behind : (F r : List Bool) (I : Image) → readImage F ≡ got I r → Behind F r 0 96
-image-behind F r I e = behind F (fields (imageFields I 0)) r 0 96 (omega arith) (read-image F r I e .same) (length-image I 0)
+image-behind : (F r : List Bool) (I : Image) → readImage F ≡ got I r → Behind F r 0 imageBits
+image-behind F r I e = behind F (fields (imageFields I 0)) r 0 imageBits (omega arith) (read-image F r I e .same) (length-image I 0)
 
 pub image-facts : (F : List Bool) (I : Image) → ImageDone F I → ImageFacts F I
 image-facts F I d =
@@ -59,33 +59,33 @@ image-got F r I e = record { image = e ∙ ap (got I) (image-behind F r I e .sam
 pub record PredictorFacts (F : List Bool) (I : Image) (P : Predictor) : Type 0 where
   pub image : ImageFacts F I
   pub legal : predictorLegal I P ≡ true
-  pub fits : 136 ≤ length F
+  pub fits : predictorEnd ≤ length F
 
 module _ (F : List Bool) (I : Image) (P : Predictor) where
-  predictor-behind : (r : List Bool) → ImageDone F I → readPredictor I (drop 96 F) ≡ got P r → Behind F r 96 40
-  predictor-behind r d e = behind F (fields (predictorFields P)) r 96 40 (image-facts F I d .fits) (read-predictor I (drop 96 F) r P e .same) (length-predictor P)
+  predictor-behind : (r : List Bool) → ImageDone F I → readPredictor I (drop imageBits F) ≡ got P r → Behind F r imageBits predictorBits
+  predictor-behind r d e = behind F (fields (predictorFields P)) r imageBits predictorBits (image-facts F I d .fits) (read-predictor I (drop imageBits F) r P e .same) (length-predictor P)
 
   pub predictor-facts : PredictorDone F I P → PredictorFacts F I P
   predictor-facts d = record {
     image = image-facts F I (d .before);
-    legal = read-predictor I (drop 96 F) _ P (d .predictor) .legal;
+    legal = read-predictor I (drop imageBits F) _ P (d .predictor) .legal;
     fits = predictor-behind _ (d .before) (d .predictor) .fits;
   }
 
-  pub predictor-got : (r : List Bool) → ImageDone F I → readPredictor I (drop 96 F) ≡ got P r → PredictorDone F I P
+  pub predictor-got : (r : List Bool) → ImageDone F I → readPredictor I (drop imageBits F) ≡ got P r → PredictorDone F I P
   predictor-got r d e = record { before = d; predictor = e ∙ ap (got P) (predictor-behind r d e .same) }
 
-  weights-behind : (t r : List Bool) → PredictorDone F I P → readWeights I P (drop 136 F) ≡ got t r → Behind F r 136 (weightsSize I P)
+  weights-behind : (t r : List Bool) → PredictorDone F I P → readWeights I P (drop predictorEnd F) ≡ got t r → Behind F r predictorEnd (weightsSize I P)
   weights-behind t r d e =
-      let w = read-weights I P (drop 136 F) r t e in
-      behind F (cond (P .custom) (filled 8 t) []) r 136 (weightsSize I P) (predictor-facts d .fits) (w .same) (length-weights-part I P t (w .long))
+      let w = read-weights I P (drop predictorEnd F) r t e in
+      behind F (cond (P .custom) (filled 8 t) []) r predictorEnd (weightsSize I P) (predictor-facts d .fits) (w .same) (length-weights-part I P t (w .long))
 
-  pub weights-got : (t r : List Bool) → PredictorDone F I P → readWeights I P (drop 136 F) ≡ got t r → WeightsDone F I P (136 + weightsSize I P)
+  pub weights-got : (t r : List Bool) → PredictorDone F I P → readWeights I P (drop predictorEnd F) ≡ got t r → WeightsDone F I P (predictorEnd + weightsSize I P)
   weights-got t r d e = record { before = d; place = refl; table = t; weights = e ∙ ap (got t) (weights-behind t r d e .same) }
 
 pub record WeightsFacts (F : List Bool) (I : Image) (P : Predictor) (at : ℕ) : Type 0 where
   pub before : PredictorFacts F I P
-  pub small : at ≤ 136 + mostWeightBits + 7
+  pub small : at ≤ predictorEnd + mostWeightBits + 7
   pub fits : at ≤ length F
 
 pub weights-facts : (F : List Bool) (I : Image) (P : Predictor) (at : ℕ) → WeightsDone F I P at → WeightsFacts F I P at
@@ -95,16 +95,16 @@ weights-facts F I P at d =
     record { before = p; small = omega (arith, d .place, weights-size-most I P (p .legal) (p .image .bands)); fits = omega (arith, d .place, b .fits) }
 
 module _ (F : List Bool) (S : Settings) where
-  coder-behind : (at : ℕ) (r : List Bool) → WeightsDone F (S .image) (S .predictor) at → readCoder (S .image) (drop at F) ≡ got (S .coder) r → Behind F r at 16
+  coder-behind : (at : ℕ) (r : List Bool) → WeightsDone F (S .image) (S .predictor) at → readCoder (S .image) (drop at F) ≡ got (S .coder) r → Behind F r at coderBits
   coder-behind at r d e =
-      behind F (fields (coderFields (S .coder))) r at 16 (weights-facts F (S .image) (S .predictor) at d .fits) (read-coder (S .image) (drop at F) r (S .coder) e .same) (length-coder (S .coder))
+      behind F (fields (coderFields (S .coder))) r at coderBits (weights-facts F (S .image) (S .predictor) at d .fits) (read-coder (S .image) (drop at F) r (S .coder) e .same) (length-coder (S .coder))
 
-  pub coder-got : (at : ℕ) (r : List Bool) → WeightsDone F (S .image) (S .predictor) at → readCoder (S .image) (drop at F) ≡ got (S .coder) r → CoderDone F S (at + 16)
+  pub coder-got : (at : ℕ) (r : List Bool) → WeightsDone F (S .image) (S .predictor) at → readCoder (S .image) (drop at F) ≡ got (S .coder) r → CoderDone F S (at + coderBits)
   coder-got at r d e = record { from = at; before = d; place = refl; coder = e ∙ ap (got (S .coder)) (coder-behind at r d e .same) }
 
 pub record CoderFacts (F : List Bool) (S : Settings) (at : ℕ) : Type 0 where
   pub before : PredictorFacts F (S .image) (S .predictor)
-  pub small : at ≤ 152 + mostWeightBits + 7
+  pub small : at ≤ fixedBits + mostWeightBits + 7
   pub fits : at ≤ length F
 
 pub coder-facts : (F : List Bool) (S : Settings) (at : ℕ) → CoderDone F S at → CoderFacts F S at

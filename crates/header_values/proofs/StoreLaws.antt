@@ -23,6 +23,7 @@ use Rattle.settings.specs.Limits.{mostBands, mostComponents, mostWeightBits, mo
 use Rattle.settings.specs.LegalLaws.{legal-predictor}
 use Rattle.settings.specs.Tables.{stride, accumulatorSlot, entry, componentCount}
 use Rattle.settings.specs.TableLaws.{components-fit}
+use Rattle.header.specs.Parts.{imageBits, predictorEnd, fixedBits, coderBits}
 use Rattle.header.specs.Tables.{signedOf, numberAt, componentsBefore, used, slots, tablesOf}
 use Rattle.header.specs.TableLaws.{entry-slots, used-weight, used-accumulator, used-cases, length-tables-of}
 use Rattle.header.specs.Read.{readImage, readPredictor, readWeights, readCoder, readAccumulators, Header, readHeader}
@@ -31,7 +32,7 @@ use Rattle.header.specs.HeaderLaws.{on-got}
 use Rattle.header.specs.Sizes.{weightsSize, weightBits}
 use Rattle.header_values.specs.Storing.{Storing, Stored, AccumulatorsDone, BandStored, slotIn, laid}
 use Rattle.header_values.proofs.Positions.{PredictorFacts, image-got, predictor-got, weights-got, coder-got, header-got, coder-facts, number-in-file}
-use Rattle.header.proofs.SizeLaws.{no-components, more-components, components-most, precision-most, bits-most}
+use Rattle.header.specs.SizeLaws.{no-components, more-components, components-most, precision-most, bits-most}
 use Rattle.header.proofs.Signs.{small-power}
 
 -- ---- a header that was read: each of its parts
@@ -42,31 +43,31 @@ same-behind e f = cc
 same-value : {A : Type 0} {x : Read A} {a b : A} {l m : List Bool} → x ≡ got a l → x ≡ got b m → a ≡ b
 same-value e f = cc
 
-pub parts-done : (F l : List Bool) (h : Header) → readHeader F ≡ got h l → AccumulatorsDone F (h .settings) (136 + weightsSize (h .settings .image) (h .settings .predictor) + 16)
+pub parts-done : (F l : List Bool) (h : Header) → readHeader F ≡ got h l → AccumulatorsDone F (h .settings) (predictorEnd + weightsSize (h .settings .image) (h .settings .predictor) + coderBits)
 unfolding readHeader
 parts-done F l h e =
     on-got (readImage F) _ h l e (λ I l₁ i e₁.
     let di = image-got F l₁ I i in
-    let q₁ : l₁ ≡ drop 96 F = same-behind i (di .image) in
+    let q₁ : l₁ ≡ drop imageBits F = same-behind i (di .image) in
     on-got (readPredictor I l₁) _ h l e₁ (λ P l₂ p e₂.
-    let p′ : readPredictor I (drop 96 F) ≡ got P l₂ = subst (λ (x : List Bool). readPredictor I x ≡ got P l₂) q₁ p in
+    let p′ : readPredictor I (drop imageBits F) ≡ got P l₂ = subst (λ (x : List Bool). readPredictor I x ≡ got P l₂) q₁ p in
     let dp = predictor-got F I P l₂ di p′ in
-    let q₂ : l₂ ≡ drop 136 F = same-behind p′ (dp .predictor) in
+    let q₂ : l₂ ≡ drop predictorEnd F = same-behind p′ (dp .predictor) in
     on-got (readWeights I P l₂) _ h l e₂ (λ weights l₃ w e₃.
-    let w′ : readWeights I P (drop 136 F) ≡ got weights l₃ = subst (λ (x : List Bool). readWeights I P x ≡ got weights l₃) q₂ w in
+    let w′ : readWeights I P (drop predictorEnd F) ≡ got weights l₃ = subst (λ (x : List Bool). readWeights I P x ≡ got weights l₃) q₂ w in
     let dw = weights-got F I P weights l₃ dp w′ in
-    let q₃ : l₃ ≡ drop (136 + weightsSize I P) F = same-behind w′ (dw .weights) in
+    let q₃ : l₃ ≡ drop (predictorEnd + weightsSize I P) F = same-behind w′ (dw .weights) in
     on-got (readCoder I l₃) _ h l e₃ (λ C l₄ c e₄.
     let S : Settings = record { image = I; predictor = P; coder = C } in
-    let c′ : readCoder I (drop (136 + weightsSize I P) F) ≡ got C l₄ = subst (λ (x : List Bool). readCoder I x ≡ got C l₄) q₃ c in
-    let dc = coder-got F S (136 + weightsSize I P) l₄ dw c′ in
-    let q₄ : l₄ ≡ drop (136 + weightsSize I P + 16) F = same-behind c′ (subst (λ (n : ℕ). readCoder I (drop n F) ≡ got C (drop (136 + weightsSize I P + 16) F)) (dc .before .place) (dc .coder)) in
+    let c′ : readCoder I (drop (predictorEnd + weightsSize I P) F) ≡ got C l₄ = subst (λ (x : List Bool). readCoder I x ≡ got C l₄) q₃ c in
+    let dc = coder-got F S (predictorEnd + weightsSize I P) l₄ dw c′ in
+    let q₄ : l₄ ≡ drop (predictorEnd + weightsSize I P + coderBits) F = same-behind c′ (subst (λ (n : ℕ). readCoder I (drop n F) ≡ got C (drop (predictorEnd + weightsSize I P + coderBits) F)) (dc .before .place) (dc .coder)) in
     on-got (readAccumulators I C l₄) _ h l e₄ (λ accumulators l₅ a e₅.
-    let a′ : readAccumulators I C (drop (136 + weightsSize I P + 16) F) ≡ got accumulators l₅ = subst (λ (x : List Bool). readAccumulators I C x ≡ got accumulators l₅) q₄ a in
+    let a′ : readAccumulators I C (drop (predictorEnd + weightsSize I P + coderBits) F) ≡ got accumulators l₅ = subst (λ (x : List Bool). readAccumulators I C x ≡ got accumulators l₅) q₄ a in
     let T : Header = record { settings = S; tables = tablesOf S weights accumulators } in
     let g : got T l₅ ≡ got h l = e₅ in
     let q : T ≡ h = cc in
-    subst (λ (x : Header). AccumulatorsDone F (x .settings) (136 + weightsSize (x .settings .image) (x .settings .predictor) + 16)) q
+    subst (λ (x : Header). AccumulatorsDone F (x .settings) (predictorEnd + weightsSize (x .settings .image) (x .settings .predictor) + coderBits)) q
     (record { before = dc; table = accumulators; behind = l₅; accumulators = a′ }))))))
 
 -- ---- the two tables in the file
@@ -88,9 +89,9 @@ module _ (F : List Bool) (S : Settings) (at : ℕ) (d : AccumulatorsDone F S at)
   abbrev q : ℕ
   q = S .predictor .precision
 
-  weights-start : S .predictor .custom ≡ true → Starts (d .before .before .table) (drop 136 F) (weightBits (S .image) (S .predictor))
+  weights-start : S .predictor .custom ≡ true → Starts (d .before .before .table) (drop predictorEnd F) (weightBits (S .image) (S .predictor))
   weights-start c =
-      let w = read-weights (S .image) (S .predictor) (drop 136 F) _ _ (d .before .before .weights) in
+      let w = read-weights (S .image) (S .predictor) (drop predictorEnd F) _ _ (d .before .before .weights) in
       starts (S .predictor .custom) _ _ _ _ c (w .long c) (w .same)
 
   accumulators-start : S .coder .tabled ≡ true → Starts (d .table) (drop at F) (4 * S .image .nz)
@@ -102,7 +103,7 @@ module _ (F : List Bool) (S : Settings) (at : ℕ) (d : AccumulatorsDone F S at)
   pub record EntryIn (z : ℕ) : Type 0 where
     pub is : numberAt 4 (d .table) z ≡ number (take 4 (drop (at + 4 * z) F))
     pub room : at + 4 * z + 4 ≤ length F
-    pub small : at + 4 * z ≤ 152 + mostWeightBits + 7 + mostParameterBits
+    pub small : at + 4 * z ≤ fixedBits + mostWeightBits + 7 + mostParameterBits
 
   pub entry-in : (z : ℕ) → S .coder .tabled ≡ true → z < S .image .nz → EntryIn z
   entry-in z c h =
@@ -117,7 +118,7 @@ module _ (F : List Bool) (S : Settings) (at : ℕ) (d : AccumulatorsDone F S at)
 
   -- weight i behind the first ones
   pub record WeightAt (i first : ℕ) : Type 0 where
-    pub room : 136 + q * (first + i) + q ≤ length F
+    pub room : predictorEnd + q * (first + i) + q ≤ length F
     pub small : q * (first + i) + q ≤ mostWeightBits
     pub few : first + i ≤ mostComponents
     pub least : 1 ≤ q
@@ -125,8 +126,8 @@ module _ (F : List Bool) (S : Settings) (at : ℕ) (d : AccumulatorsDone F S at)
 
   -- weight i of band z
   pub record WeightIn (z i : ℕ) : Type 0 where
-    pub is : numberAt q (d .before .before .table) (componentsBefore (S .predictor) z + i) ≡ number (take q (drop (136 + q * (componentsBefore (S .predictor) z + i)) F))
-    pub room : 136 + q * (componentsBefore (S .predictor) z + i) + q ≤ length F
+    pub is : numberAt q (d .before .before .table) (componentsBefore (S .predictor) z + i) ≡ number (take q (drop (predictorEnd + q * (componentsBefore (S .predictor) z + i)) F))
+    pub room : predictorEnd + q * (componentsBefore (S .predictor) z + i) + q ≤ length F
     pub small : q * (componentsBefore (S .predictor) z + i) + q ≤ mostWeightBits
     pub few : componentsBefore (S .predictor) z + i ≤ mostComponents
     pub least : 1 ≤ q
@@ -149,9 +150,9 @@ module _ (F : List Bool) (S : Settings) (at : ℕ) (d : AccumulatorsDone F S at)
       let most = precision-most (S .image) (S .predictor) (p .legal) c in
       let all : N ≤ mostComponents = omega (arith, components-most (S .predictor) (S .image .nz) (l .bands-most), p .image .bands) in
       let big : q * N ≤ mostWeightBits = bits-most q N most all in
-      let m : q * N ≤ length F - 136 = subst (λ (x : ℕ). q * N ≤ x) (length-drop 136 F) (s .fits) in
+      let m : q * N ≤ length F - predictorEnd = subst (λ (x : ℕ). q * N ≤ x) (length-drop predictorEnd F) (s .fits) in
       record {
-        is = ap (λ (t : List Bool). numberAt q t n) (s .is) ∙ number-in-file F 136 q (q * N) n v (s .fits);
+        is = ap (λ (t : List Bool). numberAt q t n) (s .is) ∙ number-in-file F predictorEnd q (q * N) n v (s .fits);
         room = omega (arith, p .fits);
         small = omega arith;
         few = omega arith;
@@ -251,7 +252,7 @@ module _ (F : List Bool) (S : Settings) (at first z i : ℕ) where
   slot-accumulator e t r q = q ∙ rw (e, used-accumulator S z t)
 
   pub slot-weight : i ≢ accumulatorSlot → S .predictor .custom ≡ true → i < componentCount (S .predictor) z → (r : ℤ)
-      → r ≡ signedOf (S .predictor .precision) (number (take (S .predictor .precision) (drop (136 + S .predictor .precision * (first + i)) F))) → r ≡ slotIn F S at first z i
+      → r ≡ signedOf (S .predictor .precision) (number (take (S .predictor .precision) (drop (predictorEnd + S .predictor .precision * (first + i)) F))) → r ≡ slotIn F S at first z i
   slot-weight e c k r q = q ∙ rw (used-weight S z i c k, ne-eqb i accumulatorSlot e)
 
 -- ---- two's complement
@@ -349,11 +350,11 @@ bands-all F S at begun first z area d b k =
 
 -- ---- what is known before the tables are stored
 
-pub storing-done : (F : List Bool) (S : Settings) (tables : List ℤ) (w : ℕ) → Storing F S tables → w ≡ weightsSize (S .image) (S .predictor) → AccumulatorsDone F S (152 + w)
+pub storing-done : (F : List Bool) (S : Settings) (tables : List ℤ) (w : ℕ) → Storing F S tables → w ≡ weightsSize (S .image) (S .predictor) → AccumulatorsDone F S (fixedBits + w)
 storing-done F S tables w s e =
-    let d : AccumulatorsDone F S (136 + weightsSize (S .image) (S .predictor) + 16) =
-    subst (λ (x : Settings). AccumulatorsDone F x (136 + weightsSize (x .image) (x .predictor) + 16)) (s .settings) (parts-done F _ (s .header) (s .read)) in
-    let p : 136 + weightsSize (S .image) (S .predictor) + 16 ≡ 152 + w = omega arith in
+    let d : AccumulatorsDone F S (predictorEnd + weightsSize (S .image) (S .predictor) + coderBits) =
+    subst (λ (x : Settings). AccumulatorsDone F x (predictorEnd + weightsSize (x .image) (x .predictor) + coderBits)) (s .settings) (parts-done F _ (s .header) (s .read)) in
+    let p : predictorEnd + weightsSize (S .image) (S .predictor) + coderBits ≡ fixedBits + w = omega arith in
     subst (AccumulatorsDone F S) p d
 
 pub storing-facts : (F : List Bool) (S : Settings) (tables : List ℤ) → Storing F S tables → PredictorFacts F (S .image) (S .predictor)

@@ -10,6 +10,7 @@ use Rattle.bitstream.specs.Stream.{number}
 use Rattle.refusals.specs.Reading.{got}
 use Rattle.settings.specs.declared.Settings.{Settings}
 use Rattle.settings.specs.Tables.{stride, accumulatorSlot}
+use Rattle.header.specs.Parts.{predictorEnd}
 use Rattle.header.specs.Tables.{signedOf, used}
 use Rattle.header.specs.Read.{readAccumulators, Header, readHeader}
 use Rattle.header_values.specs.Progress.{CoderDone}
@@ -38,7 +39,7 @@ abbrev pub slotIn : List Bool → Settings → ℕ → ℕ → ℕ → ℕ → �
 slotIn F S at first z i =
     cond (used S z i)
     (cond (eqb i accumulatorSlot) (pos (number (take 4 (drop (at + 4 * z) F))))
-    (signedOf (S .predictor .precision) (number (take (S .predictor .precision) (drop (136 + S .predictor .precision * (first + i)) F)))))
+    (signedOf (S .predictor .precision) (number (take (S .predictor .precision) (drop (predictorEnd + S .predictor .precision * (first + i)) F)))))
     (pos 0)
 
 -- the first n values of T, and what is behind them as in `entry`

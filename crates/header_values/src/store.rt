@@ -6,9 +6,12 @@ ghost use lib.IntN.{pos};
 ghost use lib.ListN.{length, take, drop};
 ghost use Rattle.bitstream.specs.Stream.{unpack, number};
 ghost use Rattle.settings.specs.Tables.{stride, componentCount};
+ghost use Rattle.header.specs.Parts.{predictorEnd};
 ghost use Rattle.header.specs.Tables.{signedOf, componentsBefore};
 ghost use Rattle.header_values.specs.Storing.{Storing, Stored, AccumulatorsDone, BandStored, slotIn};
 use header::fields::number_at;
+use header::sizes::FIXED_BITS;
+use header::sizes::PREDICTOR_END;
 use header::sizes::weights_size;
 use settings::Settings;
 use settings::range::power;
@@ -38,10 +41,13 @@ fn accumulator_at(file: &[u8], s: Settings, at: usize, z: usize) -> i32
 // Weight i of band z, which has `first` weights before it.
 fn weight_at(file: &[u8], s: Settings, at: usize, first: usize, z: usize, i: usize) -> i32
     requires { ⌜ AccumulatorsDone (unpack (now file)) s at × (s .predictor .custom ≡ true) × (first ≡ componentsBefore (s .predictor) z) × (z < s .image .nz) × (i < componentCount (s .predictor) z) ⌝ }
-    ensures { λ r. ⌜ r ≡ signedOf (s .predictor .precision) (number (take (s .predictor .precision) (drop (136 + s .predictor .precision * (first + i)) (unpack (now (file .entry)))))) ⌝ }
+    ensures { λ r. ⌜ r ≡ signedOf (s .predictor .precision) (number (take (s .predictor .precision) (drop (predictorEnd + s .predictor .precision * (first + i)) (unpack (now (file .entry)))))) ⌝ }
 {
     let q = s.predictor.precision;
-    signed_of(q, number_at(file, 136 + q as usize * (first + i), q))
+    signed_of(
+        q,
+        number_at(file, PREDICTOR_END + q as usize * (first + i), q),
+    )
 }
 
 // What slot i of band z holds: zero where no table has it.
@@ -82,7 +88,7 @@ pub fn store_tables(file: &[u8], s: Settings, tables: &mut [i32])
     requires { ⌜ Storing (unpack (now file)) s (now tables) ⌝ }
     ensures { λ r. ⌜ Stored (unpack (now (file .entry))) s (now (tables .entry)) (now (tables .exit)) ⌝ }
 {
-    let at = 152 + weights_size(s.image, s.predictor);
+    let at = FIXED_BITS + weights_size(s.image, s.predictor);
     let bands = s.image.nz as usize;
     let mut first = 0;
     let mut z = 0;

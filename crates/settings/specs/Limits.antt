@@ -1,6 +1,6 @@
 -- The house limits (document 01) and the sizes that follow from them. A higher limit is a change of the first two numbers
 -- and of their twins in src/legal.rt; everything else is written with these names.
-use Prim.Native.Nat.{ℕ, _*_, _^_}
+use Prim.Native.Nat.{ℕ, _+_, _*_, _^_}
 
 -- the most samples of an image
 abbrev pub mostSamples : ℕ
@@ -23,6 +23,16 @@ mostWeightBits = 22 * mostComponents
 -- the most bits of a table of k', 4 a band (5.3.4.2)
 abbrev pub mostParameterBits : ℕ
 mostParameterBits = 4 * mostBands
+
+-- ---- files of so many bands and samples
+
+-- the most bits of a body, at most 48 a sample (5.4.3.2)
+abbrev pub mostBodyBits : ℕ
+mostBodyBits = 48 * mostSamples
+
+-- the most bytes of a file (cube/specs/SizeLaws.antt)
+abbrev pub mostFileBytes : ℕ
+mostFileBytes = 32 + 50 * mostBands + 6 * mostSamples
 
 -- ---- ceilings: no limits, but what words of 64 bits hold with room to spare. They stand for images of 2^28 samples of 48 bits
 -- behind tables of 4,096 bands too, so a higher limit moves none of them.

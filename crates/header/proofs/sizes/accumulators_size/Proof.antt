@@ -5,7 +5,7 @@ use Prim.Native.Nat.{_*_}
 use native.Mathlib.Omega.{arith}
 use borrow.Author.Needs.{needs}
 use borrow.Author.Tests.{not-true, not-false}
-use Rattle.header.proofs.SizeLaws.{cond-true}
+use Rattle.header.specs.SizeLaws.{cond-true}
 use Rattle.header.specs.Sizes.{padded, accumulatorsSize}
 use Rattle.settings.specs.declared.Coder.{Coder}
 use Rattle.settings.specs.declared.Image.{Image}

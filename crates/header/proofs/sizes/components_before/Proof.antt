@@ -3,7 +3,7 @@ use mathlib.Core.Path.{_≡_, sym, _∙_}
 use Prim.Native.Nat.{_*_, _-_, _≤_}
 use native.Mathlib.Omega.{arith}
 use borrow.Author.Needs.{needs}
-use Rattle.header.proofs.SizeLaws.{no-components, more-components}
+use Rattle.header.specs.SizeLaws.{no-components, more-components}
 use Rattle.header.specs.Tables.{componentsBefore}
 use Rattle.settings.specs.TableLaws.{components-fit}
 use Rattle.header.proofs.sizes.components_before.Statement.{statement}

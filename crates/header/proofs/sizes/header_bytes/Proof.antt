@@ -2,7 +2,7 @@
 use mathlib.Core.Bool.{true, _&&_, and-eq-true-iff}
 use mathlib.Core.Path.{_≡_}
 use borrow.Author.Needs.{needs}
-use Rattle.header.proofs.SizeLaws.{bytes-of-header}
+use Rattle.header.specs.SizeLaws.{bytes-of-header}
 use Rattle.settings.specs.Legal.{settingsLegal, imageLegal, predictorLegal, coderLegal}
 use Rattle.settings.specs.LegalLaws.{limited-facts}
 use Rattle.settings.specs.declared.Settings.{Settings}

@@ -3,7 +3,7 @@ use mathlib.Core.Path.{ap}
 use Prim.Native.Nat.{ℕ, _*_}
 use native.Mathlib.Omega.{arith}
 use borrow.Author.Needs.{needs}
-use Rattle.header.proofs.SizeLaws.{bits-most, precision-most}
+use Rattle.header.specs.SizeLaws.{bits-most, precision-most}
 use Rattle.settings.specs.LegalLaws.{legal-predictor}
 use Rattle.header.proofs.sizes.weight_bits.Statement.{statement}
 use Rattle.header.proofs.sizes.weight_bits.Tie as tie

@@ -7,7 +7,7 @@ use borrow.Author.Tests.{not-true, not-false}
 use Rattle.header.specs.Sizes.{padded, weightBits, weightsSize}
 use Rattle.settings.specs.declared.Image.{Image}
 use Rattle.settings.specs.declared.Predictor.{Predictor}
-use Rattle.header.proofs.SizeLaws.{cond-true}
+use Rattle.header.specs.SizeLaws.{cond-true}
 use Rattle.header.proofs.sizes.weights_size.Statement.{statement}
 use Rattle.header.proofs.sizes.weights_size.Tie as tie
 

@@ -3,7 +3,7 @@ use mathlib.Core.Path.{_≡_, refl, sym, ap, _∙_}
 use native.Mathlib.Omega.{arith}
 use borrow.Author.Needs.{needs}
 use Rattle.bitstream.proofs.Writes.{put-then}
-use Rattle.header.proofs.SizeLaws.{length-weight-part, weights-size-most}
+use Rattle.header.specs.SizeLaws.{length-weight-part, weights-size-most}
 use Rattle.header.proofs.WriteLaws.{facts}
 use Rattle.header.specs.PartLaws.{length-image, length-predictor, length-coder}
 use Rattle.header.specs.Write.{header}

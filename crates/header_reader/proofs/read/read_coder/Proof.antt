@@ -12,7 +12,7 @@ use Rattle.bitstream.specs.Stream.{unpack}
 use Rattle.header_reader.proofs.Answering.{PartSeen, missing, absent, illegal, legal-part, coder-part}
 use Rattle.header_reader.specs.Answers.{coderRead}
 use Rattle.header.specs.FieldLaws.{split-lt}
-use Rattle.header.specs.Parts.{coderWidths}
+use Rattle.header.specs.Parts.{coderWidths, coderBits}
 use Rattle.header.specs.Read.{readCoder}
 use Rattle.refusals.specs.declared.Refusal.the-variants.{EndsInHeader, HouseLimit, BlockCoder}
 use Rattle.refusals.specs.Reading.{refused}
@@ -20,16 +20,16 @@ use Rattle.header_reader.proofs.read.read_coder.Statement.{statement}
 use Rattle.header_reader.proofs.read.read_coder.Tie as tie
 
 -- the file is long enough, or it is not
-ends : (c : tie.After-ends-before) → ltb (length (drop (c .before .before .args .at) (unpack (c .before .before .args .file .now)))) 16 ≡ c .ends-before .result
-ends c = missing (unpack (c .before .before .args .file .now)) (c .before .before .args .at) 16 (λ _. omega arith) ∙ sym (c .ends-before .ensures)
+ends : (c : tie.After-ends-before) → ltb (length (drop (c .before .before .args .at) (unpack (c .before .before .args .file .now)))) coderBits ≡ c .ends-before .result
+ends c = missing (unpack (c .before .before .args .file .now)) (c .before .before .args .at) coderBits (λ _. omega arith) ∙ sym (c .ends-before .ensures)
 
 read-absent : (c : tie.Then1) → readCoder (c .before .before .before .args .image) (drop (c .before .before .before .args .at) (unpack (c .before .before .before .args .file .now))) ≡ refused EndsInHeader
 unfolding readCoder
-read-absent c = absent 16 (drop (c .before .before .before .args .at) (unpack (c .before .before .before .args .file .now))) _ (ends (c .before) ∙ c .if1 .taken)
+read-absent c = absent coderBits (drop (c .before .before .before .args .at) (unpack (c .before .before .before .args .file .now))) _ (ends (c .before) ∙ c .if1 .taken)
 
 -- the part, once its fields are read
 seen : (c : tie.After-coder-plain) → let a = c .before .before .before .before .before .before .before .args in let l = drop (a .at) (unpack (a .file .now)) in
-    PartSeen (readCoder (a .image) l) 16 (c .before .coder-legal .result && c .coder-plain .result) [] (c .before .before .coder-of .result) l
+    PartSeen (readCoder (a .image) l) coderBits (c .before .coder-legal .result && c .coder-plain .result) [] (c .before .before .coder-of .result) l
 seen c =
     coder-part _ _ (c .before .before .before .coder-numbers .result) _ _ _ (ends (c .before .before .before .before .before) ∙ c .before .before .before .before .if1 .left)
     (c .before .before .before .coder-numbers .ensures) (c .before .before .coder-of .ensures) (c .before .coder-legal .ensures) (c .coder-plain .ensures)

@@ -12,7 +12,7 @@ use Rattle.bitstream.specs.Stream.{unpack}
 use Rattle.header_reader.proofs.Answering.{PartSeen, absent, illegal, block-coder, past-limit, whole-image, image-part}
 use Rattle.header_reader.specs.Answers.{imageRead}
 use Rattle.header.specs.FieldLaws.{split-lt}
-use Rattle.header.specs.Parts.{imageWidths}
+use Rattle.header.specs.Parts.{imageWidths, imageBits}
 use Rattle.header.specs.Read.{readImage}
 use Rattle.refusals.specs.declared.Refusal.the-variants.{EndsInHeader, HouseLimit, BlockCoder}
 use Rattle.refusals.specs.Tests.{_⇒_}
@@ -22,16 +22,16 @@ use Rattle.header_reader.proofs.read.read_image.Statement.{statement}
 use Rattle.header_reader.proofs.read.read_image.Tie as tie
 
 -- the file is long enough
-there : (c : tie.Else1) → ltb (length (unpack (c .before .before .before .args .file .now))) 96 ≡ false
+there : (c : tie.Else1) → ltb (length (unpack (c .before .before .before .args .file .now))) imageBits ≡ false
 there c = sym (c .before .ends-before .ensures) ∙ c .if1 .left
 
 read-absent : (c : tie.Then1) → readImage (unpack (c .before .before .before .args .file .now)) ≡ refused EndsInHeader
 unfolding readImage
-read-absent c = absent 96 (unpack (c .before .before .before .args .file .now)) _ (sym (c .before .ends-before .ensures) ∙ c .if1 .taken)
+read-absent c = absent imageBits (unpack (c .before .before .before .args .file .now)) _ (sym (c .before .ends-before .ensures) ∙ c .if1 .taken)
 
 -- the part, once its fields are read
 seen : (c : tie.After-image-plain) → let l = unpack (c .before .before .before .before .before .before .before .args .file .now) in let v = c .before .before .before .image-numbers .result in let I = c .before .before .image-of .result in
-    PartSeen (readImage l) 96 (c .before .image-legal .result && c .image-plain .result) (eqb (getD v 11 0) 1 ⇒ BlockCoder ∷ not (limited I) ⇒ HouseLimit ∷ []) I l
+    PartSeen (readImage l) imageBits (c .before .image-legal .result && c .image-plain .result) (eqb (getD v 11 0) 1 ⇒ BlockCoder ∷ not (limited I) ⇒ HouseLimit ∷ []) I l
 seen c = image-part _ (c .before .before .before .image-numbers .result) _ _ _ (there (c .before .before .before .before)) (c .before .before .before .image-numbers .ensures) (c .before .before .image-of .ensures) (c .before .image-legal .ensures) (c .image-plain .ensures)
 
 ends-before-requires : tie.Need-ends-before-requires

@@ -12,7 +12,7 @@ use Rattle.bitstream.specs.Stream.{unpack}
 use Rattle.header_reader.proofs.Answering.{PartSeen, missing, absent, illegal, legal-part, predictor-part}
 use Rattle.header_reader.specs.Answers.{predictorRead}
 use Rattle.header.specs.FieldLaws.{split-lt}
-use Rattle.header.specs.Parts.{predictorWidths}
+use Rattle.header.specs.Parts.{predictorWidths, imageBits, predictorBits}
 use Rattle.header.specs.Read.{readPredictor}
 use Rattle.refusals.specs.declared.Refusal.the-variants.{EndsInHeader, HouseLimit, BlockCoder}
 use Rattle.refusals.specs.Reading.{refused}
@@ -20,16 +20,16 @@ use Rattle.header_reader.proofs.read.read_predictor.Statement.{statemen
 use Rattle.header_reader.proofs.read.read_predictor.Tie as tie
 
 -- the file is long enough, or it is not
-ends : (c : tie.After-ends-before) → ltb (length (drop 96 (unpack (c .before .before .args .file .now)))) 40 ≡ c .ends-before .result
-ends c = missing (unpack (c .before .before .args .file .now)) 96 40 (λ _. omega arith) ∙ sym (c .ends-before .ensures)
+ends : (c : tie.After-ends-before) → ltb (length (drop imageBits (unpack (c .before .before .args .file .now)))) predictorBits ≡ c .ends-before .result
+ends c = missing (unpack (c .before .before .args .file .now)) imageBits predictorBits (λ _. omega arith) ∙ sym (c .ends-before .ensures)
 
-read-absent : (c : tie.Then1) → readPredictor (c .before .before .before .args .image) (drop 96 (unpack (c .before .before .before .args .file .now))) ≡ refused EndsInHeader
+read-absent : (c : tie.Then1) → readPredictor (c .before .before .before .args .image) (drop imageBits (unpack (c .before .before .before .args .file .now))) ≡ refused EndsInHeader
 unfolding readPredictor
-read-absent c = absent 40 (drop 96 (unpack (c .before .before .before .args .file .now))) _ (ends (c .before) ∙ c .if1 .taken)
+read-absent c = absent predictorBits (drop imageBits (unpack (c .before .before .before .args .file .now))) _ (ends (c .before) ∙ c .if1 .taken)
 
 -- the part, once its fields are read
-seen : (c : tie.After-predictor-plain) → let a = c .before .before .before .before .before .before .before .args in let l = drop 96 (unpack (a .file .now)) in
-    PartSeen (readPredictor (a .image) l) 40 (c .before .predictor-legal .result && c .predictor-plain .result) [] (c .before .before .predictor-of .result) l
+seen : (c : tie.After-predictor-plain) → let a = c .before .before .before .before .before .before .before .args in let l = drop imageBits (unpack (a .file .now)) in
+    PartSeen (readPredictor (a .image) l) predictorBits (c .before .predictor-legal .result && c .predictor-plain .result) [] (c .before .before .predictor-of .result) l
 seen c =
     predictor-part _ _ (c .before .before .before .predictor-numbers .result) _ _ _ (ends (c .before .before .before .before .before) ∙ c .before .before .before .before .if1 .left)
     (c .before .before .before .predictor-numbers .ensures) (c .before .before .predictor-of .ensures) (c .before .predictor-legal .ensures) (c .predictor-plain .ensures)
@@ -45,7 +45,7 @@ predictor-numbers-requires c κs = ltb-false _ _ (sym (c .before .ends-before .e
 
 predictor-of-requires : tie.Need-predictor-of-requires
 predictor-of-requires c κs = rw (c .predictor-numbers .ensures)
-    (let lt = split-lt predictorWidths (drop 96 (unpack (c .before .before .before .before .args .file .now))) in (lt 7, lt 8, lt 9, lt 10))
+    (let lt = split-lt predictorWidths (drop imageBits (unpack (c .before .before .before .before .args .file .now))) in (lt 7, lt 8, lt 9, lt 10))
 
 predictor-legal-requires : tie.Need-predictor-legal-requires
 predictor-legal-requires c κs = search needs

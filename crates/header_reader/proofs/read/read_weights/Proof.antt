@@ -8,6 +8,7 @@ use lib.ListN.{length, take, drop}
 use borrow.Author.Needs.{needs}
 use borrow.Author.Tests.{ltb-false, not-true, not-false}
 use Rattle.bitstream.specs.Stream.{unpack}
+use Rattle.header.specs.Parts.{predictorEnd}
 use Rattle.header_reader.proofs.Answering.{PartSeen, illegal, legal-part}
 use Rattle.header_reader.proofs.TableReading.{weights-default, weights-custom, table-absent, table-seen}
 use Rattle.header_reader.specs.Answers.{tableRead}
@@ -18,19 +19,19 @@ use Rattle.header_reader.proofs.read.read_weights.Statement.{statement}
 use Rattle.header_reader.proofs.read.read_weights.Tie as tie
 
 -- the file has the table
-room : (c : tie.Else2) → 136 + c .before .before .padded .result ≤ length (unpack (c .before .before .before .before .before .before .before .args .file .now))
+room : (c : tie.Else2) → predictorEnd + c .before .before .padded .result ≤ length (unpack (c .before .before .before .before .before .before .before .args .file .now))
 room c = ltb-false _ _ (sym (c .before .ends-before .ensures) ∙ c .if2 .left)
 
 -- the table is asked for
-table : (c : tie.After-ends-before) → let a = c .before .before .before .before .before .before .args in let l = drop 136 (unpack (a .file .now)) in readWeights (a .image) (a .predictor) l ≡ readTable (c .before .before .weight-bits .result) (λ t. true) l
+table : (c : tie.After-ends-before) → let a = c .before .before .before .before .before .before .args in let l = drop predictorEnd (unpack (a .file .now)) in readWeights (a .image) (a .predictor) l ≡ readTable (c .before .before .weight-bits .result) (λ t. true) l
 table c = weights-custom _ _ _ _ (not-false _ (c .before .before .before .if1 .left)) (c .before .before .weight-bits .ensures .0)
 
 -- the table, once its fill is read
-seen : (c : tie.After-fill-clear) → let l = drop 136 (unpack (c .before .before .before .before .before .before .before .before .args .file .now)) in let n = c .before .before .before .before .weight-bits .result in
+seen : (c : tie.After-fill-clear) → let l = drop predictorEnd (unpack (c .before .before .before .before .before .before .before .before .args .file .now)) in let n = c .before .before .before .before .weight-bits .result in
     PartSeen (readTable n (λ t. true) l) (padded n) (true && c .fill-clear .result) [] (take n l) l
 seen c =
     let a = c .before .before .before .before .before .before .before .before .args in
-    table-seen (unpack (a .file .now)) 136 (c .before .before .before .before .weight-bits .result) (λ t. true) (omega arith) (c .before .before .before .padded .result) (c .before .before .before .padded .ensures .0) (c .before .before .ends-before .result) (c .before .before .ends-before .ensures)
+    table-seen (unpack (a .file .now)) predictorEnd (c .before .before .before .before .weight-bits .result) (λ t. true) (omega arith) (c .before .before .before .padded .result) (c .before .before .before .padded .ensures .0) (c .before .before .ends-before .result) (c .before .before .ends-before .ensures)
     true (c .fill-clear .result) (c .before .if2 .left) refl (c .fill-clear .ensures)
 
 returns : tie.Need-returns
@@ -51,7 +52,7 @@ ends-before-requires c κs = search needs
 returns-2 : tie.Need-returns-2
 returns-2 c =
     let a = c .before .before .before .before .before .before .before .args in
-    sym (ap tableRead (table (c .before) ∙ table-absent (unpack (a .file .now)) 136 (c .before .before .before .weight-bits .result) (λ t. true) (omega arith) (c .before .before .padded .result) (c .before .before .padded .ensures .0) (c .before .ends-before .result) (c .before .ends-before .ensures) (c .if2 .taken)))
+    sym (ap tableRead (table (c .before) ∙ table-absent (unpack (a .file .now)) predictorEnd (c .before .before .before .weight-bits .result) (λ t. true) (omega arith) (c .before .before .padded .result) (c .before .before .padded .ensures .0) (c .before .ends-before .result) (c .before .ends-before .ensures) (c .if2 .taken)))
 
 add-fill-clear : tie.Need-add-fill-clear
 add-fill-clear c = search needs

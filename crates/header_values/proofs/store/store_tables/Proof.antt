@@ -2,10 +2,11 @@
 use Prim.Native.Nat.{ℕ, _+_, _-_, _*_, _≤_}
 use native.Mathlib.Omega.{arith}
 use Rattle.bitstream.specs.Stream.{unpack}
+use Rattle.header.specs.Parts.{fixedBits}
 use Rattle.header.specs.Tables.{componentsBefore}
 use Rattle.header_values.specs.Storing.{AccumulatorsDone}
 use Rattle.settings.specs.LegalLaws.{legal-predictor}
-use Rattle.header.proofs.SizeLaws.{components-most}
+use Rattle.header.specs.SizeLaws.{components-most}
 use Rattle.header_values.proofs.StoreLaws.{Bands, bands-begin, bands-more, bands-all, bands-few, components-few, storing-done, storing-facts}
 use Rattle.header_values.proofs.store.store_tables.Statement.{statement}
 use Rattle.header_values.proofs.store.store_tables.Tie as tie
@@ -22,7 +23,7 @@ abbrev μ-loop : tie.MeasureT-loop
 μ-loop file s tables₀ at bands first₀ z₀ tables first z = bands - z
 
 -- the header's parts, and how many components are before a band
-done : (c : tie.After-struct-known Inv-loop μ-loop) → let a = c .before .before .before .args in AccumulatorsDone (unpack (a .file .now)) (a .s) (152 + c .before .weights-size .result)
+done : (c : tie.After-struct-known Inv-loop μ-loop) → let a = c .before .before .before .args in AccumulatorsDone (unpack (a .file .now)) (a .s) (fixedBits + c .before .weights-size .result)
 done c = storing-done _ (c .before .before .before .args .s) _ (c .before .weights-size .result) (c .before .before .before .pre) (c .before .weights-size .ensures .0)
 
 few : (c : tie.After-struct-known Inv-loop μ-loop) (z : ℕ) → componentsBefore (c .before .before .before .args .s .predictor) z ≤ 18 * z

@@ -7,6 +7,7 @@ use mir.Facts.{toZ-ofZ}
 use mir.Syntax.{w32}
 use Rattle.integers.specs.Laws.{ok}
 use Rattle.bitstream.specs.Stream.{unpack}
+use Rattle.header.specs.Parts.{predictorEnd}
 use Rattle.header.specs.FieldLaws.{number-take-lt}
 use Rattle.header.specs.Tables.{signedOf}
 use Rattle.header_values.proofs.StoreLaws.{WeightAt, weight-from}
@@ -40,7 +41,7 @@ signed-of-requires : tie.Need-signed-of-requires
 signed-of-requires c κs =
     let a = c .before .before .args in
     let w = there (c .before .before) in
-    (w .least, w .most, subst (λ (n : ℕ). n < 2 ^ a .s .predictor .precision) (sym (c .number-at .ensures)) (number-take-lt (a .s .predictor .precision) (drop (136 + a .s .predictor .precision * (a .first + a .i)) (unpack (a .file .now)))))
+    (w .least, w .most, subst (λ (n : ℕ). n < 2 ^ a .s .predictor .precision) (sym (c .number-at .ensures)) (number-take-lt (a .s .predictor .precision) (drop (predictorEnd + a .s .predictor .precision * (a .first + a .i)) (unpack (a .file .now)))))
 
 returns : tie.Need-returns
 returns c = toZ-ofZ (ok w32 (c .signed-of .result) (c .signed-of .ok)) ∙ c .signed-of .ensures ∙ ap (signedOf (c .before .before .before .args .s .predictor .precision)) (c .before .number-at .ensures)
