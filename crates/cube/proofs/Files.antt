@@ -13,17 +13,20 @@ use Rattle.bitstream.specs.Laws.{length-pack, filling-lt}
 use Rattle.bitstream.specs.Writer.{Holds, Put, Done}
 use Rattle.bitstream.proofs.Writes.{further, put-then, put-filled, done-file}
 use Rattle.settings.specs.declared.Settings.{Settings}
+use Rattle.settings.specs.Limits.{mostBodyBits}
 use Rattle.settings.specs.LegalLaws.{legal-settings, limited-facts}
 use Rattle.settings.specs.RangeLaws.{all-in-range}
 use Rattle.settings.specs.CheckLaws.{Fine}
 use Rattle.header.specs.Write.{header}
+use Rattle.header.specs.Sizes.{mostHeaderBits}
+use Rattle.header.specs.SizeLaws.{header-bits-most}
 use Rattle.body.specs.declared.plan.Plan.{Plan}
 use Rattle.body.specs.Body.{body}
 use Rattle.body.specs.Plan.{planOf}
 use Rattle.body.specs.Walk.{Starts}
 use Rattle.cube.specs.File.{fileBits, file}
 use Rattle.cube.specs.Writing.{Written}
-use Rattle.cube.specs.SizeLaws.{header-small, body-small}
+use Rattle.cube.specs.SizeLaws.{body-most}
 
 pub file-written : (S : Settings) (tables samples : List ℤ) {t0 t1 t2 t3 : Tail} {o o1 o2 o3 o4 : List ℕ} (n : ℕ)
     → ((out : List ℕ) → Holds out t0 [])
@@ -62,22 +65,22 @@ fine-starts S P tables samples scratch scratch′ k f p l c a = record {
 
 -- where the stream stands behind the header, and behind the body
 pub headed-small : (S : Settings) (tables samples : List ℤ) (n : ℕ) {t0 t1 : Tail} {o o1 : List ℕ} → Fine S tables samples n
-    → Holds o t0 [] → Put t0 o (header S tables) t1 o1 → 8 * t1 .at + t1 .count ≤ 2 ^ 18
+    → Holds o t0 [] → Put t0 o (header S tables) t1 o1 → 8 * t1 .at + t1 .count ≤ mostHeaderBits
 headed-small S tables samples n f h p =
-    let s = header-small S tables (legal-settings S (f .legal)) (limited-facts (S .image) (f .small) .few-bands) in
+    let s = header-bits-most S tables (legal-settings S (f .legal)) (limited-facts (S .image) (f .small) .few-bands) in
     let a = h .size in
     let b = p .size in
     omega arith
 
 pub bodied-small : (S : Settings) (tables samples : List ℤ) (n : ℕ) {t1 t2 : Tail} {o1 o2 : List ℕ} → Fine S tables samples n
-    → 8 * t1 .at + t1 .count ≤ 2 ^ 18 → Put t1 o1 (body S tables samples) t2 o2 → 8 * t2 .at + t2 .count ≤ 2 ^ 26
+    → 8 * t1 .at + t1 .count ≤ mostHeaderBits → Put t1 o1 (body S tables samples) t2 o2 → 8 * t2 .at + t2 .count ≤ mostHeaderBits + mostBodyBits
 bodied-small S tables samples n f h p =
-    let s = body-small S tables samples (f .legal) (f .small) in
+    let s = body-most S tables samples (f .legal) (f .small) in
     let b = p .size in
     omega arith
 
-pub filled-small : (w : ℕ) {t2 t3 : Tail} {o2 o3 : List ℕ} → 1 ≤ w → w ≤ 8 → 8 * t2 .at + t2 .count ≤ 2 ^ 26
-    → Put t2 o2 (zeros (filling (8 * w) (8 * t2 .at + t2 .count))) t3 o3 → 8 * t3 .at + t3 .count ≤ 2 ^ 27
+pub filled-small : (w : ℕ) {t2 t3 : Tail} {o2 o3 : List ℕ} → 1 ≤ w → w ≤ 8 → 8 * t2 .at + t2 .count ≤ mostHeaderBits + mostBodyBits
+    → Put t2 o2 (zeros (filling (8 * w) (8 * t2 .at + t2 .count))) t3 o3 → 8 * t3 .at + t3 .count ≤ mostHeaderBits + mostBodyBits + 64
 filled-small w {t2} a b h p =
     let l = filling-lt (8 * w) (8 * t2 .at + t2 .count) (omega arith) in
     let z = length-replicate (filling (8 * w) (8 * t2 .at + t2 .count)) false in

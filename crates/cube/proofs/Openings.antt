@@ -26,6 +26,8 @@ use Rattle.header.specs.Read.{Header, readHeader}
 use Rattle.header.specs.HeaderLaws.{HeaderIs, read-header}
 use Rattle.header_reader.specs.Answers.{Begins}
 use Rattle.header.specs.Write.{header}
+use Rattle.header.specs.Sizes.{mostHeaderBits}
+use Rattle.header.specs.SizeLaws.{header-bits-most}
 use Rattle.body.specs.Order.{order}
 use Rattle.body.specs.OrderLaws.{inside-order, sorted-order}
 use Rattle.body.specs.BodyLaws.{places-written}
@@ -47,7 +49,7 @@ use Rattle.body_reader.specs.declared.Gone.the-variants as gone
 use Rattle.cube.specs.Areas.{openAnswer, imageAfter, tablesAfter, lentOf, Opens}
 use Rattle.cube.specs.ValueLaws.{header-keeps}
 use Rattle.cube.specs.FileLaws.{zeros-good, deep}
-use Rattle.cube.specs.SizeLaws.{header-small, codes-small}
+use Rattle.cube.specs.SizeLaws.{codes-most}
 
 -- ---- an answer and its areas
 
@@ -202,11 +204,11 @@ module _ (bytes : List ℕ) (scratch tables image : List ℤ) (h : Header) (at :
   known = read-header (unpack bytes) (drop at (unpack bytes)) h e
 
   -- the header ends early in the file
-  pub position-small : at ≤ 2 ^ 18
+  pub position-small : at ≤ mostHeaderBits
   position-small =
       let l = ap length (known .same) ∙ length-append (header (h .settings) (h .tables)) (drop at (unpack bytes)) in
       let d = length-drop at (unpack bytes) in
-      let s = header-small (h .settings) (h .tables) (legal-settings (h .settings) (known .legal)) (limited-facts (h .settings .image) (known .limited) .few-bands) in
+      let s = header-bits-most (h .settings) (h .tables) (legal-settings (h .settings) (known .legal)) (limited-facts (h .settings .image) (known .limited) .few-bands) in
       omega arith
 
   -- and so does the body, where it is read
@@ -219,7 +221,7 @@ module _ (bytes : List ℕ) (scratch tables image : List ℤ) (h : Header) (at :
       (zeros-good (h .settings) deep) (inside-order (h .settings .image)) (sorted-order (h .settings .image)) k in
       let c : List Bool = codes (h .settings) (h .tables) (imageOf (h .settings .image) x) (order (h .settings .image)) in
       let n : length (drop at (unpack bytes)) ≡ length c + length (drop a (unpack bytes)) = ap length (w .same) ∙ length-append c (drop a (unpack bytes)) in
-      let b = codes-small (h .settings) (h .tables) x (known .legal) (known .limited) in
+      let b = codes-most (h .settings) (h .tables) x (known .legal) (known .limited) in
       let p = length-drop at (unpack bytes) in
       let q = length-drop a (unpack bytes) in
       let s = position-small in
