@@ -2,7 +2,7 @@
 use mathlib.Core.Path.{_≡_, refl, sym, _∙_, ap, subst}
 use mathlib.Core.Bool.{Bool, true, false, cond, not}
 use mathlib.Core.List.{List, [], _∷_}
-use Prim.Native.Nat.{ℕ, _-_, _^_, _≤_, _<_}
+use Prim.Native.Nat.{ℕ, _+_, _-_, _^_, _≤_, _<_}
 use native.Mathlib.Decide.{decLe}
 use native.Mathlib.Omega.{arith}
 use lib.IntN.{ℤ, pos}
@@ -21,8 +21,7 @@ use Rattle.refusals.specs.Reading.{Read, got, refused}
 use Rattle.refusals.specs.ReadingLaws.{sequenced, passed, no-test}
 use Rattle.settings.specs.declared.Settings.{Settings}
 use Rattle.settings.specs.Legal.{settingsLegal, limited, sampleCount}
-use Rattle.settings.specs.Limits.{mostSamples}
-use Rattle.settings.specs.LegalLaws.{limited-facts}
+use Rattle.settings.specs.Limits.{mostSamples, mostFileBytes}
 use Rattle.settings.specs.Range.{firstOut}
 use Rattle.settings.specs.Checks.{checkPack}
 use Rattle.settings.specs.CheckLaws.{fine}
@@ -40,7 +39,7 @@ use Rattle.cube.specs.declared.Opened.the-variants as opening
 use Rattle.cube.specs.File.{file, lengthAnswer, packed}
 use Rattle.cube.specs.Open.{Cube, Lent, atEnd, behindHeader, openedBits, opened}
 use Rattle.cube.specs.Areas.{openAnswer}
-use Rattle.cube.specs.SizeLaws.{file-small}
+use Rattle.cube.specs.SizeLaws.{samples-few, file-most}
 use Rattle.cube.specs.Look.{looked}
 use Rattle.cube.specs.ValueLaws.{Refuses, Most, opened-within}
 use Rattle.settings_slots.specs.Slots.{slotCount, holds, settingsFrom, slotsChecked}
@@ -101,16 +100,13 @@ slots-pass slots e =
 
 -- ---- pack and length
 
-few : (S : Settings) → limited (S .image) ≡ true → sampleCount (S .image) ≤ mostSamples
-unfolding sampleCount
-few S h = limited-facts (S .image) h .few-samples
-
 module _ (S : Settings) (tables samples : List ℤ) (scratch : ℕ) where
   -- an index comes only after the house limit and the count have passed
-  check-small : (w : Refusal) → checkPack S tables samples scratch ≡ checking.Refused w → value w < 2 ^ 24
+  check-small : (w : Refusal) → checkPack S tables samples scratch ≡ checking.Refused w → value w ≤ mostFileBytes
   unfolding checkPack value
   check-small w e =
-      hit-small (2 ^ 24) _ w (
+      let h : value w < mostFileBytes + 1 =
+      hit-small (mostFileBytes + 1) _ w (
         λ _. omega arith,
         λ _. (
           λ _. omega arith,
@@ -124,7 +120,7 @@ module _ (S : Settings) (tables samples : List ℤ) (scratch : ℕ) where
                   λ out.
                       let k = ltb-true (firstOut (S .image) samples) (length samples) out in
                       let n = eqb-true (length samples) (sampleCount (S .image)) (not-false (eqb (length samples) (sampleCount (S .image))) counted) in
-                      let m = few S (not-false (limited (S .image)) small) in
+                      let m = samples-few S (not-false (limited (S .image)) small) in
                       omega arith,
                   λ _. tt,
                 ),
@@ -132,30 +128,31 @@ module _ (S : Settings) (tables samples : List ℤ) (scratch : ℕ) where
             ),
           ),
         ),
-      ) e
+      ) e in
+      omega arith
 
-  length-by : (x : Checked) → checkPack S tables samples scratch ≡ x → packedValue (lengthAnswer S tables samples scratch) < 2 ^ 24
+  length-by : (x : Checked) → checkPack S tables samples scratch ≡ x → packedValue (lengthAnswer S tables samples scratch) ≤ mostFileBytes
   unfolding lengthAnswer packedValue
-  length-by checking.Passed e = let f = fine S tables samples scratch e in rw e (file-small S tables samples (f .legal) (f .small))
+  length-by checking.Passed e = let f = fine S tables samples scratch e in rw e (file-most S tables samples (f .legal) (f .small))
   length-by (checking.Refused w) e = rw e (check-small w e)
 
-  pub length-small : packedValue (lengthAnswer S tables samples scratch) < 2 ^ 24
+  pub length-small : packedValue (lengthAnswer S tables samples scratch) ≤ mostFileBytes
   length-small = length-by (checkPack S tables samples scratch) refl
 
-  packed-by : (room : ℕ) (x : Packed) → lengthAnswer S tables samples scratch ≡ x → packedValue x < 2 ^ 24 → packedValue (packed S tables samples scratch room) < 2 ^ 24
+  packed-by : (room : ℕ) (x : Packed) → lengthAnswer S tables samples scratch ≡ x → packedValue x ≤ mostFileBytes → packedValue (packed S tables samples scratch room) ≤ mostFileBytes
   unfolding packed packedValue value
   packed-by room (packing.Length n) e h = rw e (go (ltb room n))
     where
-      go : (b : Bool) → packedValue (cond b (packing.Refused (NoRoom n)) (packing.Length n)) < 2 ^ 24
+      go : (b : Bool) → packedValue (cond b (packing.Refused (NoRoom n)) (packing.Length n)) ≤ mostFileBytes
       go true = h
       go false = h
   packed-by room (packing.Refused w) e h = rw e h
 
-  pub packed-small : (room : ℕ) → packedValue (packed S tables samples scratch room) < 2 ^ 24
+  pub packed-small : (room : ℕ) → packedValue (packed S tables samples scratch room) ≤ mostFileBytes
   packed-small room = packed-by room (lengthAnswer S tables samples scratch) refl length-small
 
 -- an answer behind the boundary's own tests
-unless-small : (x : Checked) (r : Packed) → ((w : Refusal) → x ≡ checking.Refused w → value w < 1) → packedValue r < 2 ^ 24 → packedValue (answeredUnless x r) < valueLimit
+unless-small : (x : Checked) (r : Packed) → ((w : Refusal) → x ≡ checking.Refused w → value w < 1) → packedValue r ≤ mostFileBytes → packedValue (answeredUnless x r) < valueLimit
 unfolding packedValue
 unless-small checking.Passed r f h = omega arith
 unless-small (checking.Refused w) r f h = let k = f w refl in omega arith
@@ -236,7 +233,7 @@ open-fits : (x : Read Cube) → Refuses (Most mostSamples) x → ((c : Cube) (r 
 unfolding openAnswer openedValue Storable
 open-fits (got c r) w g =
     let k = g c r refl in
-    record { value-small = let m = few (c .settings) (k .within) in omega arith; storable = small (c .settings) (k .legal) (k .named) }
+    record { value-small = let m = samples-few (c .settings) (k .within) in omega arith; storable = small (c .settings) (k .legal) (k .named) }
 open-fits (refused v) w g = record { value-small = let m = w .said v refl in omega arith; storable = tt }
 
 pub opened-fits : (lent : Lent) (bytes : List ℕ) → Fit openedValue (openAnswer (opened lent bytes))

@@ -14,13 +14,16 @@ ghost use Rattle.settings_slots.specs.Slots.{slotCount};
 ghost use Rattle.cube_c.specs.Answer.{valueLimit, wordOf, refusalWord, packedValue, packedWord, openedValue, openedWord, lookedValue, lookedWord, openedOf};
 ghost use Rattle.cube_c.specs.Boundary.{Storable, slotsAfter};
 
+// What the value of an answer is kept below, 2^56: the number stands above it.
+pub const VALUE_LIMIT: u64 = 0x100_0000_0000_0000;
+
 // A number of eight bits with a value below it in the word.
 pub fn word(number: u64, value: u64) -> u64
     requires { ⌜ number < 256 ⌝ }
     requires { ⌜ value < valueLimit ⌝ }
     ensures { λ r. ⌜ r ≡ wordOf number value ⌝ }
 {
-    number * 72057594037927936 + value
+    number * VALUE_LIMIT + value
 }
 
 // The word of a refusal.
