@@ -20,7 +20,7 @@ use Rattle.cube.specs.declared.Packed.the-variants as packing
 use Rattle.cube.specs.File.{file, lengthAnswer, packed}
 use Rattle.cube.specs.Areas.{outAfter, Packs}
 use Rattle.cube.specs.Writing.{Written}
-use Rattle.cube.specs.Demands.{length-fine}
+use Rattle.cube.specs.PackLaws.{length-fine}
 
 -- no refusal of these tests clears
 abbrev Kept : List Test → Type 0

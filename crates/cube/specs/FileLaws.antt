@@ -1,11 +1,11 @@
 -- The whole file both ways: what is packed opens to what was packed, and what opens was packed.
 use mathlib.Core.Path.{_≡_, refl, sym, _∙_, ap, ap₂, subst}
-use mathlib.Core.Bool.{Bool, true, false, cond, not, _||_}
-use mathlib.Core.List.{List, [], _∷_, _++_, append-assoc, append-nil}
-use Prim.Native.Nat.{ℕ, zero, suc, _+_, _-_, _*_, _/_, _%_, _^_, _<_, _≤_}
+use mathlib.Core.Bool.{Bool, true, false, not}
+use mathlib.Core.List.{List, [], _++_, append-assoc}
+use Prim.Native.Nat.{ℕ, zero, suc, _+_, _-_, _*_, _<_, _≤_}
 use native.Mathlib.Omega.{arith}
 use lib.IntN.{ℤ, pos}
-use lib.ListN.{length, getD, replicate, length-append, length-replicate, getD-replicate}
+use lib.ListN.{length, getD, replicate, length-append, length-replicate}
 use lib.Dec.{ltb}
 use borrow.Author.Tests.{le-ltb, not-false}
 use Rattle.bitstream.specs.Stream.{Bytes, pack, unpack, zeros, filling, filled}
@@ -17,28 +17,28 @@ use Rattle.refusals.specs.Reading.{Read, got, refused, andThen, unless}
 use Rattle.refusals.specs.ReadingLaws.{passes, no-test, passed, sequenced}
 use Rattle.settings.specs.declared.Settings.{Settings}
 use Rattle.settings.specs.Legal.{sampleCount, settingsLegal, limited}
-use Rattle.settings.specs.LegalLaws.{LegalSettings, legal-settings}
+use Rattle.settings.specs.LegalLaws.{legal-settings}
 use Rattle.settings.specs.Range.{lowest, highest, inRange}
 use Rattle.settings.specs.RangeLaws.{zero-in-range}
-use Rattle.settings.specs.Tables.{stride, scratchStride, entry, tablesLegal}
+use Rattle.settings.specs.Tables.{stride, entry, tablesLegal}
 use Rattle.settings.specs.TableLaws.{components-fit}
-use Rattle.settings.specs.Checks.{areasShort}
 use Rattle.header.specs.Fields.{same}
 use Rattle.header.specs.FieldLaws.{same-refl, same-true}
 use Rattle.header.specs.Parts.{usedImage}
-use Rattle.header.specs.Tables.{used, usedTables}
+use Rattle.header.specs.Tables.{usedTables}
 use Rattle.header.specs.Write.{header, usedSettings}
-use Rattle.settings.specs.CheckLaws.{Roomy, roomy-of, none-of}
+use Rattle.settings.specs.CheckLaws.{roomy-of, none-of}
 use Rattle.header.specs.Read.{Header, readHeader}
 use Rattle.header.specs.TableLaws.{entry-slots}
 use Rattle.header.specs.HeaderLaws.{header-read, read-header, header-used, used-legal}
 use Rattle.body.specs.Order.{order}
 use Rattle.body.specs.OrderLaws.{sorted-order, inside-order, complete}
-use Rattle.cube.specs.UsedLaws.{order-used, body-used}
+use Rattle.cube.specs.UsedLaws.{body-used}
 use Rattle.body.specs.BodyLaws.{Good, places-read, places-written}
 use Rattle.body.specs.Body.{body, readBody}
 use Rattle.cube.specs.File.{fileBits, file}
 use Rattle.cube.specs.Open.{atEnd, Cube, Lent, behindHeader, openedBits, opened}
+use Rattle.cube.specs.Terms.{Enough}
 
 -- ---- the end of the file
 
@@ -86,7 +86,7 @@ unfolding fileBits filled
 file-parts S tables samples = append-assoc (header S tables) (body S tables samples) _
 
 -- what opened: legal settings, table values and samples, with what they do not use as 0, and the file of them
-pub record Packed (c : Cube) (bits : List Bool) : Type 0 where
+pub record FileOf (c : Cube) (bits : List Bool) : Type 0 where
   pub legal : settingsLegal (c .settings) ≡ true
   pub within : limited (c .settings .image) ≡ true
   pub entries : tablesLegal (c .settings) (c .tables) ≡ true
@@ -96,18 +96,13 @@ pub record Packed (c : Cube) (bits : List Bool) : Type 0 where
   pub long : length (c .tables) ≡ stride * c .settings .image .nz
   pub same : bits ≡ fileBits (c .settings) (c .tables) (c .samples)
 
--- enough memory is lent
-pub record Enough (S : Settings) (lent : Lent) : Type 0 where
-  pub image : sampleCount (S .image) ≤ lent .image
-  pub areas : Roomy S (lent .scratch) (lent .tables)
-
 -- ---- settings that are none do not matter here
 
-count-used : (S : Settings) → sampleCount (S .image) ≡ sampleCount (usedSettings S .image)
+pub count-used : (S : Settings) → sampleCount (S .image) ≡ sampleCount (usedSettings S .image)
 unfolding sampleCount usedSettings usedImage
 count-used S = refl
 
-range-used : (S : Settings) (s : ℤ) → inRange (S .image) s ≡ inRange (usedSettings S .image) s
+pub range-used : (S : Settings) (s : ℤ) → inRange (S .image) s ≡ inRange (usedSettings S .image) s
 unfolding inRange lowest highest usedSettings usedImage
 range-used S s = refl
 
@@ -180,9 +175,9 @@ rest-back h samples lent size legal g e is =
         omega arith
 
 -- the file looks at no setting that is none
-file-used : (S : Settings) (tables samples : List ℤ) → settingsLegal S ≡ true → fileBits (usedSettings S) (usedTables S tables) samples ≡ fileBits S tables samples
+pub file-bits-used : (S : Settings) (tables samples : List ℤ) → settingsLegal S ≡ true → fileBits (usedSettings S) (usedTables S tables) samples ≡ fileBits S tables samples
 unfolding fileBits usedTables
-file-used S tables samples legal =
+file-bits-used S tables samples legal =
     ap₂ (λ (a b : List Bool). filled (8 * usedSettings S .image .word) (a ++ b))
     (header-used S tables legal)
     (body-used S tables (λ z. components-fit (S .predictor) z (legal-settings S legal .predictor .bands-most)) (λ z i. entry-slots S (entry tables) z i) samples)
@@ -194,7 +189,7 @@ pub opened-file : (S : Settings) (tables samples : List ℤ) (lent : Lent) → s
     → opened lent (file S tables samples) ≡ got (record { settings = usedSettings S; tables = usedTables S tables; samples = samples }) []
 unfolding opened openedBits
 opened-file S tables samples lent legal within entries g e =
-    ap (openedBits lent) (file-bits S tables samples (legal-settings S legal .image .word-least) ∙ sym (file-used S tables samples legal))
+    ap (openedBits lent) (file-bits S tables samples (legal-settings S legal .image .word-least) ∙ sym (file-bits-used S tables samples legal))
     ∙ ap (λ (x : Read Header). andThen x (behindHeader lent (length (fileBits S′ tables′ samples))))
     (ap readHeader (file-parts S′ tables′ samples ∙ ap (λ (a : List Bool). a ++ r) (header-used S tables legal)) ∙ header-read S tables r legal within entries)
     ∙ rest-back (record { settings = S′; tables = tables′ }) samples lent _ (used-legal S ∙ legal) (good-used S samples g) (enough-used S lent e) refl
@@ -240,14 +235,14 @@ filled-up m l a b c e z =
     let k : length l - length c ≡ length (a ++ b) = omega arith in
     e ∙ sym (append-assoc a b c) ∙ ap (λ (x : List Bool). (a ++ b) ++ x) (z ∙ ap (λ (x : ℕ). zeros (filling m x)) k)
 
-packed-bits : (lent : Lent) (l : List Bool) (c : Cube) (r : List Bool) → openedBits lent l ≡ got c r → Packed c l
+packed-bits : (lent : Lent) (l : List Bool) (c : Cube) (r : List Bool) → openedBits lent l ≡ got c r → FileOf c l
 unfolding openedBits fileBits
 packed-bits lent l c r e =
     let s = sequenced _ _ c r e in
     let h = s .value in
     let i = read-header l (s .behind) h (s .first) in
     let b = behind-written lent (length l) h (s .behind) c r (i .legal) (s .then) in
-    subst (λ (x : Cube). Packed x l) (b .cube-is)
+    subst (λ (x : Cube). FileOf x l) (b .cube-is)
     (record {
       legal = i .legal;
       within = i .limited;
@@ -262,16 +257,11 @@ packed-bits lent l c r e =
 
 -- DEMAND 3 of the definitions: what opens was packed
 pub file-opened : (lent : Lent) (bytes : List ℕ) (c : Cube) (r : List Bool) → Bytes bytes → opened lent bytes ≡ got c r
-    → Packed c (unpack bytes) × (file (c .settings) (c .tables) (c .samples) ≡ bytes)
+    → FileOf c (unpack bytes) × (file (c .settings) (c .tables) (c .samples) ≡ bytes)
 unfolding opened file
 file-opened lent bytes c r o e =
     let p = packed-bits lent (unpack bytes) c r e in
     (p, ap pack (sym (p .same)) ∙ pack-unpack bytes o)
-
--- two files that open to one image under the same settings are equal
-pub one-file : (lent lent′ : Lent) (bytes bytes′ : List ℕ) (c : Cube) (r r′ : List Bool) → Bytes bytes → Bytes bytes′
-    → opened lent bytes ≡ got c r → opened lent′ bytes′ ≡ got c r′ → bytes ≡ bytes′
-one-file lent lent′ bytes bytes′ c r r′ o o′ e e′ = sym (file-opened lent bytes c r o e .1) ∙ file-opened lent′ bytes′ c r′ o′ e′ .1
 
 -- what is refused, with enough memory for it, is no file of any legal settings and image
 pub refused-no-file : (lent : Lent) (bytes : List ℕ) (w : Refusal) → opened lent bytes ≡ refused w

@@ -4,6 +4,7 @@ pub mod Open
 pub mod Look
 pub mod LookLaws
 pub mod Areas
+pub mod Terms
 pub mod Opening
 pub mod Ending
 pub mod Writing
@@ -11,6 +12,10 @@ pub mod Stars
 pub mod SmallFiles
 pub mod UsedLaws
 pub mod FileLaws
-pub mod Demands
 pub mod SizeLaws
 pub mod ValueLaws
+pub mod CallLaws
+pub mod PackLaws
+pub mod IgnoreLaws
+pub mod OpenLaws
+pub mod Demands

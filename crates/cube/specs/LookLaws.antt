@@ -1,20 +1,25 @@
--- The look's statement admits one answer, and it is that of the header's reader.
+-- The look's answer is that of the header's reader, which opening goes through first.
 use mathlib.Core.Path.{_≡_, sym, ap, _∙_}
+use mathlib.Core.Bool.{Bool}
 use mathlib.Core.List.{List}
-use Prim.Native.Nat.{ℕ}
+use Prim.Native.Nat.{ℕ, _-_}
+use native.Mathlib.Omega.{arith}
+use lib.IntN.{ℤ, pos}
+use lib.ListN.{length, replicate}
 use Rattle.bitstream.specs.Stream.{unpack}
 use Rattle.refusals.specs.declared.Refusal.{Refusal}
-use Rattle.refusals.specs.Reading.{Read, refused}
+use Rattle.refusals.specs.Reading.{Read, refused, got}
 use Rattle.settings.specs.declared.Settings.{Settings}
+use Rattle.settings.specs.Legal.{sampleCount}
+use Rattle.refusals.specs.ReadingLaws.{passed, no-test, sequenced}
+use Rattle.body.specs.Order.{order}
+use Rattle.body.specs.Body.{readBody}
 use Rattle.header.specs.Read.{Header, readHeader}
 use Rattle.header_reader.specs.Answers.{answered, Begins}
 use Rattle.cube.specs.declared.look.Looked.{Looked}
 use Rattle.cube.specs.declared.look.Looked.the-variants as answer
 use Rattle.cube.specs.Look.{looked}
-
--- no second answer satisfies the statement of `look`
-pub one-look : (bytes : List ℕ) (a b : Looked) → a ≡ looked bytes → b ≡ looked bytes → a ≡ b
-one-look bytes a b p q = p ∙ sym q
+use Rattle.cube.specs.Open.{Cube, Lent, atEnd, behindHeader, openedBits, opened}
 
 abbrev shown : Read Header → Looked
 shown = answered (λ h. answer.Settings (h .settings)) answer.Refused
@@ -27,3 +32,59 @@ look-settings bytes S at b = sym (ap shown (b .read) ∙ ap answer.Settings (b .
 pub look-refused : (bytes : List ℕ) (why : Refusal) → readHeader (unpack bytes) ≡ refused why → answer.Refused why ≡ looked bytes
 unfolding looked
 look-refused bytes why e = sym (ap shown e)
+
+-- ---- the look and opening
+
+end-settings : (h : Header) (end : ℕ) (x : List ℤ) (l : List Bool) (c : Cube) (r : List Bool) → atEnd h end x l ≡ got c r → h .settings ≡ c .settings
+unfolding atEnd
+end-settings h end x l c r e =
+    let p = passed _ _ _ _ c r e in
+    let q = passed _ _ _ _ c r (p .1) in
+    let g = sym (no-test _) ∙ q .1 in
+    ap settingsIn g
+  where
+    settingsIn : Read Cube → Settings
+    settingsIn (got d s) = d .settings
+    settingsIn (refused w) = h .settings
+
+behind-settings : (lent : Lent) (size : ℕ) (h : Header) (l : List Bool) (c : Cube) (r : List Bool) → behindHeader lent size h l ≡ got c r → h .settings ≡ c .settings
+unfolding behindHeader
+behind-settings lent size h l c r e =
+    let p = passed _ _ _ _ c r e in
+    let q = passed _ _ _ _ c r (p .1) in
+    let s = sequenced
+    (readBody (h .settings) (h .tables) 0 (order (h .settings .image)) (replicate (sampleCount (h .settings .image)) (pos 0)) l)
+    (λ samples rest. atEnd h (size - length rest) samples rest) c r (sym (no-test _) ∙ q .1) in
+    end-settings h (size - length (s .behind)) (s .value) (s .behind) c r (s .then)
+
+-- the header of a file that opens has the settings that are answered
+pub record Headed (bytes : List ℕ) (S : Settings) : Type 0 where
+  pub header : Header
+  pub behind : List Bool
+  pub read : readHeader (unpack bytes) ≡ got header behind
+  pub settings : header .settings ≡ S
+
+pub opened-headed : (lent : Lent) (bytes : List ℕ) (c : Cube) (r : List Bool) → opened lent bytes ≡ got c r → Headed bytes (c .settings)
+unfolding opened openedBits
+opened-headed lent bytes c r e =
+    let s = sequenced _ _ c r e in
+    record { header = s .value; behind = s .behind; read = s .first; settings = behind-settings lent _ (s .value) (s .behind) c r (s .then) }
+
+-- so the look shows what opening answers
+pub looked-opened : (lent : Lent) (bytes : List ℕ) (c : Cube) (r : List Bool) → opened lent bytes ≡ got c r → looked bytes ≡ answer.Settings (c .settings)
+unfolding looked
+looked-opened lent bytes c r e = let h = opened-headed lent bytes c r e in ap shown (h .read) ∙ ap answer.Settings (h .settings)
+
+-- a header's refusal is also the file's
+pub header-refused : (lent : Lent) (bytes : List ℕ) (w : Refusal) → readHeader (unpack bytes) ≡ refused w → opened lent bytes ≡ refused w
+unfolding opened openedBits
+header-refused lent bytes w e = rw e
+
+-- what the look refuses, the header's reader does
+pub looked-refused : (bytes : List ℕ) (w : Refusal) → looked bytes ≡ answer.Refused w → readHeader (unpack bytes) ≡ refused w
+unfolding looked
+looked-refused bytes w = go (readHeader (unpack bytes))
+  where
+    go : (x : Read Header) → shown x ≡ answer.Refused w → x ≡ refused w
+    go (got h r) e = let z : _≡_ {A = ℕ} 0 1 = cc in absurd (omega arith)
+    go (refused v) e = cc

@@ -60,14 +60,14 @@ module _ (S : Settings) (tables : List ℤ) (few : (z : ℕ) → componentCount 
   abbrev tables′ : List ℤ
   tables′ = usedTables S tables
 
-  weight-used : (z i : ℕ) → z < S .image .nz → S .predictor .custom ≡ true → i < componentCount (S .predictor) z → entry tables′ z i ≡ entry tables z i
+  pub weight-used : (z i : ℕ) → z < S .image .nz → S .predictor .custom ≡ true → i < componentCount (S .predictor) z → entry tables′ z i ≡ entry tables z i
   unfolding used
   weight-used z i h c l =
       let t : ltb i (componentCount (S .predictor) z) ≡ true = lt-ltb i (componentCount (S .predictor) z) l in
       let u : used S z i ≡ true = cc in
       entry-used z i h (omega (arith, few z)) ∙ if-true (used S z i) (entry tables z i) (pos 0) u
 
-  accumulator-used : (z : ℕ) → z < S .image .nz → S .coder .tabled ≡ true → entry tables′ z accumulatorSlot ≡ entry tables z accumulatorSlot
+  pub accumulator-used : (z : ℕ) → z < S .image .nz → S .coder .tabled ≡ true → entry tables′ z accumulatorSlot ≡ entry tables z accumulatorSlot
   unfolding used
   accumulator-used z h c =
       let o = or-true (S .predictor .custom && ltb accumulatorSlot (componentCount (S .predictor) z)) in

@@ -35,18 +35,18 @@ pub record Refuses (Q : Refusal → Type 0) {A : Type 0} (x : Read A) : Type 0 w
   pub said : (w : Refusal) → x ≡ refused w → Q w
 
 module _ (Q : Refusal → Type 0) where
-  got-refuses : {A : Type 0} (a : A) (l : List Bool) → Refuses Q (got a l)
+  pub got-refuses : {A : Type 0} (a : A) (l : List Bool) → Refuses Q (got a l)
   got-refuses a l = record { said = λ w e. let z : _≡_ {A = ℕ} 0 1 = cc in absurd (omega arith) }
 
-  refused-refuses : {A : Type 0} (v : Refusal) → Q v → Refuses Q {A = A} (refused v)
+  pub refused-refuses : {A : Type 0} (v : Refusal) → Q v → Refuses Q {A = A} (refused v)
   refused-refuses v h = record { said = λ w e. let k : v ≡ w = cc in subst Q k h }
 
   -- Q holds of every test's refusal
-  abbrev Tests : List Test → Type 0
+  abbrev pub Tests : List Test → Type 0
   Tests [] = Unit {0}
   Tests (t ∷ ts) = Q (t .refusal) × Tests ts
 
-  tested : {A : Type 0} (ts : List Test) {x : Read A} → Tests ts → Refuses Q x → Refuses Q (unless (firstHit ts) x)
+  pub tested : {A : Type 0} (ts : List Test) {x : Read A} → Tests ts → Refuses Q x → Refuses Q (unless (firstHit ts) x)
   unfolding firstHit
   tested [] h k = k
   tested {A} (t ∷ ts) {x} h k = go (t .fails) (tested ts (h .1) k)
@@ -55,7 +55,7 @@ module _ (Q : Refusal → Type 0) where
       go true m = refused-refuses (t .refusal) (h .0)
       go false m = m
 
-  chained : {A B : Type 0} {x : Read A} {f : A → List Bool → Read B} → Refuses Q x → ((a : A) (l : List Bool) → x ≡ got a l → Refuses Q (f a l)) → Refuses Q (andThen x f)
+  pub chained : {A B : Type 0} {x : Read A} {f : A → List Bool → Read B} → Refuses Q x → ((a : A) (l : List Bool) → x ≡ got a l → Refuses Q (f a l)) → Refuses Q (andThen x f)
   chained {x = got a l} h k = k a l refl
   chained {x = refused w} h k = refused-refuses w (h .said w refl)
 

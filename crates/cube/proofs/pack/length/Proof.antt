@@ -4,7 +4,7 @@ use Prim.Native.Nat.{ℕ}
 use lib.ListN.{length}
 use Rattle.settings.specs.CheckLaws.{fine}
 use Rattle.cube.specs.File.{lengthAnswer}
-use Rattle.cube.specs.Demands.{length-fine}
+use Rattle.cube.specs.PackLaws.{length-fine}
 use Rattle.cube.specs.declared.Packed.the-variants as packing
 use Rattle.cube.proofs.Packings.{length-refused}
 use borrow.Author.Needs.{needs}
