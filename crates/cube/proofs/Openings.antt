@@ -46,6 +46,7 @@ use Rattle.cube.specs.Ending.{ended, at-end-is}
 use Rattle.cube.specs.Opening.{endAnswer, answerOf, isRefused, Reached, Lendable}
 use Rattle.body_reader.specs.declared.Gone.{Gone}
 use Rattle.body_reader.specs.declared.Gone.the-variants as gone
+use Rattle.cube.specs.Answers.{openedNumber, openedValue}
 use Rattle.cube.specs.Areas.{openAnswer, imageAfter, tablesAfter, lentOf, Opens}
 use Rattle.cube.specs.ValueLaws.{header-keeps}
 use Rattle.cube.specs.FileLaws.{zeros-good, deep}
@@ -58,6 +59,8 @@ pub opens-as : (bytes : List ℕ) (scratch tables image : List ℤ) (x : Read Cu
     → r ≡ openAnswer x → t ≡ tablesAfter x tables → i ≡ imageAfter x image → Opens bytes scratch tables image r t i
 opens-as bytes scratch tables image x e a b c = record {
   answer = a ∙ ap openAnswer (sym e);
+  number-is = ap openedNumber (a ∙ ap openAnswer (sym e));
+  value-is = ap openedValue (a ∙ ap openAnswer (sym e));
   table-area = b ∙ ap (λ (y : Read Cube). tablesAfter y tables) (sym e);
   image-area = c ∙ ap (λ (y : Read Cube). imageAfter y image) (sym e);
 }

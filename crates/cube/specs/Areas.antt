@@ -13,8 +13,11 @@ use Rattle.cube.specs.declared.Packed.{Packed}
 use Rattle.cube.specs.declared.Packed.the-variants as packing
 use Rattle.cube.specs.declared.Opened.{Opened}
 use Rattle.cube.specs.declared.Opened.the-variants as opening
-use Rattle.cube.specs.File.{file, packed}
+use Rattle.cube.specs.declared.look.Looked.{Looked}
+use Rattle.cube.specs.File.{file, lengthAnswer, packed}
 use Rattle.cube.specs.Open.{Cube, Lent, opened}
+use Rattle.cube.specs.Look.{looked}
+use Rattle.cube.specs.Answers.{packedNumber, packedValue, openedNumber, openedValue, lookedNumber, lookedValue}
 
 -- an area that held l: what is done from its start on, and the rest as it was
 abbrev pub filledFrom : {A : Type 0} → List A → List A → List A
@@ -52,15 +55,31 @@ tablesAfter (refused w) l = afterRefusal (pos 0) w l
 abbrev pub lentOf : List ℤ → List ℤ → List ℤ → Lent
 lentOf scratch tables image = record { scratch = length scratch; tables = length tables; image = length image }
 
--- ---- the calls' statements
+-- ---- the calls' statements, each with document 01's number and value
 
 -- pack: what it answers, and what the output holds
 pub record Packs (S : Settings) (tables samples scratch : List ℤ) (out : List ℕ) (r : Packed) (out′ : List ℕ) : Type 0 where
   pub answer : r ≡ packed S tables samples (length scratch) (length out)
+  pub number-is : packedNumber r ≡ packedNumber (packed S tables samples (length scratch) (length out))
+  pub value-is : packedValue r ≡ packedValue (packed S tables samples (length scratch) (length out))
   pub output : out′ ≡ outAfter S tables samples (packed S tables samples (length scratch) (length out)) out
+
+-- length: what it answers
+pub record Lengths (S : Settings) (tables samples scratch : List ℤ) (r : Packed) : Type 0 where
+  pub answer : r ≡ lengthAnswer S tables samples (length scratch)
+  pub number-is : packedNumber r ≡ packedNumber (lengthAnswer S tables samples (length scratch))
+  pub value-is : packedValue r ≡ packedValue (lengthAnswer S tables samples (length scratch))
 
 -- open: what it answers, and what the table and image areas hold
 pub record Opens (bytes : List ℕ) (scratch tables image : List ℤ) (r : Opened) (tables′ image′ : List ℤ) : Type 0 where
   pub answer : r ≡ openAnswer (opened (lentOf scratch tables image) bytes)
+  pub number-is : openedNumber r ≡ openedNumber (openAnswer (opened (lentOf scratch tables image) bytes))
+  pub value-is : openedValue r ≡ openedValue (openAnswer (opened (lentOf scratch tables image) bytes))
   pub table-area : tables′ ≡ tablesAfter (opened (lentOf scratch tables image) bytes) tables
   pub image-area : image′ ≡ imageAfter (opened (lentOf scratch tables image) bytes) image
+
+-- look: what it answers
+pub record Looks (bytes : List ℕ) (r : Looked) : Type 0 where
+  pub answer : r ≡ looked bytes
+  pub number-is : lookedNumber r ≡ lookedNumber (looked bytes)
+  pub value-is : lookedValue r ≡ lookedValue (looked bytes)

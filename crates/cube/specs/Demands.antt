@@ -28,10 +28,9 @@ use Rattle.cube.specs.declared.Opened.{Opened}
 use Rattle.cube.specs.declared.Opened.the-variants as opening
 use Rattle.cube.specs.declared.look.Looked.{Looked}
 use Rattle.cube.specs.declared.look.Looked.the-variants as looking
-use Rattle.cube.specs.File.{file, lengthAnswer, packed}
+use Rattle.cube.specs.File.{file, packed}
 use Rattle.cube.specs.Open.{Cube, Lent, opened}
-use Rattle.cube.specs.Look.{looked}
-use Rattle.cube.specs.Areas.{filledFrom, afterRefusal, outAfter, openAnswer, imageAfter, tablesAfter, lentOf, Packs, Opens}
+use Rattle.cube.specs.Areas.{filledFrom, afterRefusal, outAfter, openAnswer, imageAfter, tablesAfter, lentOf, Packs, Lengths, Opens, Looks}
 use Rattle.cube.specs.Terms.{Allowed, Enough, OpenedTo}
 use Rattle.refusals.specs.Calls.{among, lengthRefuses, packRefuses, openRefuses, lookRefuses}
 use Rattle.cube.specs.CallLaws.{length-listed, packed-listed, opened-listed, header-listed}
@@ -48,15 +47,15 @@ pub packs-one-way : {S : Settings} {tables samples scratch : List ℤ} {out : Li
     → Packs S tables samples scratch out r o → Packs S tables samples scratch out r′ o′ → (r ≡ r′) × (o ≡ o′)
 packs-one-way p q = (p .answer ∙ sym (q .answer), p .output ∙ sym (q .output))
 
-pub length-one-way : (S : Settings) (tables samples : List ℤ) (scratch : ℕ) {r r′ : Packed} → r ≡ lengthAnswer S tables samples scratch → r′ ≡ lengthAnswer S tables samples scratch → r ≡ r′
-length-one-way S tables samples scratch p q = p ∙ sym q
+pub length-one-way : {S : Settings} {tables samples scratch : List ℤ} {r r′ : Packed} → Lengths S tables samples scratch r → Lengths S tables samples scratch r′ → r ≡ r′
+length-one-way p q = p .answer ∙ sym (q .answer)
 
 pub opens-one-way : {bytes : List ℕ} {scratch tables image : List ℤ} {r r′ : Opened} {t t′ i i′ : List ℤ}
     → Opens bytes scratch tables image r t i → Opens bytes scratch tables image r′ t′ i′ → (r ≡ r′) × (t ≡ t′) × (i ≡ i′)
 opens-one-way p q = (p .answer ∙ sym (q .answer), p .table-area ∙ sym (q .table-area), p .image-area ∙ sym (q .image-area))
 
-pub look-one-way : (bytes : List ℕ) {r r′ : Looked} → r ≡ looked bytes → r′ ≡ looked bytes → r ≡ r′
-look-one-way bytes p q = p ∙ sym q
+pub look-one-way : {bytes : List ℕ} {r r′ : Looked} → Looks bytes r → Looks bytes r′ → r ≡ r′
+look-one-way p q = p .answer ∙ sym (q .answer)
 
 -- "The list of refusals is closed": eighteen refusals, and those that clear are 6, 9, 10 and 11
 pub refusals-closed : (w : Refusal) → (1 ≤ number w) × (number w ≤ 18) × (clears w ≡ (eqb (number w) 6 || eqb (number w) 9 || eqb (number w) 10 || eqb (number w) 11))
@@ -67,16 +66,16 @@ pub pack-closed : {S : Settings} {tables samples scratch : List ℤ} {out : List
     → Packs S tables samples scratch out r o → r ≡ packing.Refused w → among packRefuses (number w) ≡ true
 pack-closed {S} {tables} {samples} {scratch} {out} w p e = packed-listed S tables samples (length scratch) (length out) w (sym (p .answer) ∙ e)
 
-pub length-closed : (S : Settings) (tables samples : List ℤ) (scratch : ℕ) {r : Packed} (w : Refusal)
-    → r ≡ lengthAnswer S tables samples scratch → r ≡ packing.Refused w → among lengthRefuses (number w) ≡ true
-length-closed S tables samples scratch w p e = length-listed S tables samples scratch w (sym p ∙ e)
+pub length-closed : {S : Settings} {tables samples scratch : List ℤ} {r : Packed} (w : Refusal)
+    → Lengths S tables samples scratch r → r ≡ packing.Refused w → among lengthRefuses (number w) ≡ true
+length-closed {S} {tables} {samples} {scratch} w p e = length-listed S tables samples (length scratch) w (sym (p .answer) ∙ e)
 
 pub open-closed : {bytes : List ℕ} {scratch tables image : List ℤ} {r : Opened} {t i : List ℤ} (w : Refusal)
     → Opens bytes scratch tables image r t i → r ≡ opening.Refused w → among openRefuses (number w) ≡ true
 open-closed {bytes} {scratch} {tables} {image} w p e = opened-listed (lentOf scratch tables image) bytes w (answer-refused _ w (sym (p .answer) ∙ e))
 
-pub look-closed : (bytes : List ℕ) {r : Looked} (w : Refusal) → r ≡ looked bytes → r ≡ looking.Refused w → among lookRefuses (number w) ≡ true
-look-closed bytes w p e = header-listed _ w (looked-refused bytes w (sym p ∙ e))
+pub look-closed : {bytes : List ℕ} {r : Looked} (w : Refusal) → Looks bytes r → r ≡ looking.Refused w → among lookRefuses (number w) ≡ true
+look-closed {bytes} w p e = header-listed _ w (looked-refused bytes w (sym (p .answer) ∙ e))
 
 -- "After a refusal no half image and no half file is left": each area is zero or as it was
 pub pack-refused : {S : Settings} {tables samples scratch : List ℤ} {out : List ℕ} {r : Packed} {o : List ℕ} (w : Refusal)
@@ -117,10 +116,11 @@ no-room-exactly {S} {tables} {samples} {scratch} {out} p = (
 )
 
 -- a length is counted exactly when all tests pass, and it is the file's
-pub length-exactly : (S : Settings) (tables samples : List ℤ) (scratch : ℕ) {r : Packed} → r ≡ lengthAnswer S tables samples scratch
-    → (Fine S tables samples scratch → r ≡ packing.Length (length (file S tables samples)))
-    × ((n : ℕ) → r ≡ packing.Length n → Fine S tables samples scratch × (n ≡ length (file S tables samples)))
-length-exactly S tables samples scratch p = (λ f. p ∙ length-fine S tables samples scratch f, λ n e. length-only S tables samples scratch n (sym p ∙ e))
+pub length-exactly : {S : Settings} {tables samples scratch : List ℤ} {r : Packed} → Lengths S tables samples scratch r
+    → (Fine S tables samples (length scratch) → r ≡ packing.Length (length (file S tables samples)))
+    × ((n : ℕ) → r ≡ packing.Length n → Fine S tables samples (length scratch) × (n ≡ length (file S tables samples)))
+length-exactly {S} {tables} {samples} {scratch} p =
+    (λ f. p .answer ∙ length-fine S tables samples (length scratch) f, λ n e. length-only S tables samples (length scratch) n (sym (p .answer) ∙ e))
 
 -- the tests pass exactly for what is allowed, with memory enough
 pub fine-exactly : (S : Settings) (tables samples : List ℤ) (scratch : ℕ)
@@ -138,9 +138,12 @@ packs-ignore {S} {S′} {tables} {tables′} {samples} {scratch} {scratch′} {o
   p .output ∙ output-ignores S S′ tables tables′ samples (length scratch) (length scratch′) s t a (length out) out ∙ sym (q .output),
 )
 
-pub length-ignore : (S S′ : Settings) (tables tables′ samples : List ℤ) (scratch scratch′ : ℕ) → usedSettings S ≡ usedSettings S′ → usedTables S tables ≡ usedTables S′ tables′
-    → areasShort S scratch (length tables) ≡ areasShort S′ scratch′ (length tables′) → lengthAnswer S tables samples scratch ≡ lengthAnswer S′ tables′ samples scratch′
-length-ignore = length-ignores
+pub lengths-ignore : {S S′ : Settings} {tables tables′ samples scratch scratch′ : List ℤ} {r r′ : Packed}
+    → usedSettings S ≡ usedSettings S′ → usedTables S tables ≡ usedTables S′ tables′
+    → areasShort S (length scratch) (length tables) ≡ areasShort S′ (length scratch′) (length tables′)
+    → Lengths S tables samples scratch r → Lengths S′ tables′ samples scratch′ r′ → r ≡ r′
+lengths-ignore {S} {S′} {tables} {tables′} {samples} {scratch} {scratch′} s t a p q =
+    p .answer ∙ length-ignores S S′ tables tables′ samples (length scratch) (length scratch′) s t a ∙ sym (q .answer)
 
 -- "Opening gives back every sample and setting": what a packer left in the output opens, with memory enough, to what was packed, with what is not used as 0
 pub opens-packed : {S : Settings} {tables samples scratch : List ℤ} {out o : List ℕ} {n : ℕ} {scratch′ area image : List ℤ} {r : Opened} {t i : List ℤ}
@@ -152,18 +155,18 @@ opens-packed {S} {tables} {samples} {scratch} {out} {o} {n} p m q =
     opens-allowed q S tables samples (fine-allowed S tables samples (length scratch) (k .0)) m (sym (ap (take n) s ∙ take-at (file S tables samples) _ n (sym (k .1))))
 
 -- the look shows the settings of a file that was packed, those that open answers, and refuses as open does
-pub look-packed : (S : Settings) (tables samples : List ℤ) {r : Looked} → Allowed S tables samples → r ≡ looked (file S tables samples) → r ≡ looking.Settings (usedSettings S)
-look-packed S tables samples a e =
+pub look-packed : (S : Settings) (tables samples : List ℤ) {r : Looked} → Allowed S tables samples → Looks (file S tables samples) r → r ≡ looking.Settings (usedSettings S)
+look-packed S tables samples a p =
     let lent : Lent = record { scratch = scratchStride * S .image .nz; tables = stride * S .image .nz; image = sampleCount (S .image) } in
     let m : Enough S lent = record { image = omega arith; areas = record { scratch-holds = omega arith; tables-hold = omega arith } } in
-    e ∙ looked-opened lent (file S tables samples) _ _ (opened-file S tables samples lent (a .legal) (a .within) (a .entries) (a .good) m)
+    p .answer ∙ looked-opened lent (file S tables samples) _ _ (opened-file S tables samples lent (a .legal) (a .within) (a .entries) (a .good) m)
 
-pub look-opened : {bytes : List ℕ} {scratch area image : List ℤ} {r : Opened} {t i : List ℤ} {s : Looked} → s ≡ looked bytes → Opens bytes scratch area image r t i
+pub look-opened : {bytes : List ℕ} {scratch area image : List ℤ} {r : Opened} {t i : List ℤ} {s : Looked} → Looks bytes s → Opens bytes scratch area image r t i
     → ((S : Settings) → r ≡ opening.Settings S → s ≡ looking.Settings S) × ((w : Refusal) → s ≡ looking.Refused w → r ≡ opening.Refused w)
 unfolding openAnswer
-look-opened {bytes} {scratch} {area} {image} e p = (
-  λ S q. let a = answer-settings _ S (sym (p .answer) ∙ q) in e ∙ looked-opened (lentOf scratch area image) bytes (a .0) (a .1) (a .2) ∙ ap looking.Settings (a .3),
-  λ w q. p .answer ∙ ap openAnswer (header-refused (lentOf scratch area image) bytes w (looked-refused bytes w (sym e ∙ q))),
+look-opened {bytes} {scratch} {area} {image} l p = (
+  λ S q. let a = answer-settings _ S (sym (p .answer) ∙ q) in l .answer ∙ looked-opened (lentOf scratch area image) bytes (a .0) (a .1) (a .2) ∙ ap looking.Settings (a .3),
+  λ w q. p .answer ∙ ap openAnswer (header-refused (lentOf scratch area image) bytes w (looked-refused bytes w (sym (l .answer) ∙ q))),
 )
 
 -- ================ demand 3

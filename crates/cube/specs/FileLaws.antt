@@ -11,9 +11,7 @@ use borrow.Author.Tests.{le-ltb, not-false}
 use Rattle.bitstream.specs.Stream.{Bytes, pack, unpack, zeros, filling, filled}
 use Rattle.bitstream.specs.Laws.{unpack-pack, pack-unpack, filled-whole, whole-bytes}
 use Rattle.refusals.specs.declared.Refusal.{Refusal}
-use Rattle.refusals.specs.declared.Refusal.the-variants.{WrongCount, ShortArea, BodyEnds, AfterEnd}
-use Rattle.refusals.specs.Tests.{Test, _⇒_, firstHit}
-use Rattle.refusals.specs.Reading.{Read, got, refused, andThen, unless}
+use Rattle.refusals.specs.Reading.{Read, got, refused, andThen}
 use Rattle.refusals.specs.ReadingLaws.{passes, no-test, passed, sequenced}
 use Rattle.settings.specs.declared.Settings.{Settings}
 use Rattle.settings.specs.Legal.{sampleCount, settingsLegal, limited}

@@ -2,9 +2,10 @@
 pub mod File
 pub mod Open
 pub mod Look
-pub mod LookLaws
+pub mod Answers
 pub mod Areas
 pub mod Terms
+pub mod LookLaws
 pub mod Opening
 pub mod Ending
 pub mod Writing

@@ -19,19 +19,25 @@ use Rattle.header_reader.specs.Answers.{answered, Begins}
 use Rattle.cube.specs.declared.look.Looked.{Looked}
 use Rattle.cube.specs.declared.look.Looked.the-variants as answer
 use Rattle.cube.specs.Look.{looked}
+use Rattle.cube.specs.Answers.{lookedNumber, lookedValue}
+use Rattle.cube.specs.Areas.{Looks}
 use Rattle.cube.specs.Open.{Cube, Lent, atEnd, behindHeader, openedBits, opened}
 
 abbrev shown : Read Header → Looked
 shown = answered (λ h. answer.Settings (h .settings)) answer.Refused
 
--- a file that begins with a header of some settings shows these
-pub look-settings : (bytes : List ℕ) (S : Settings) (at : ℕ) → Begins (unpack bytes) S at → answer.Settings S ≡ looked bytes
-unfolding looked
-look-settings bytes S at b = sym (ap shown (b .read) ∙ ap answer.Settings (b .settings))
+-- the answer makes the statement: number and value are the answer's
+looks-as : (bytes : List ℕ) {r : Looked} → r ≡ looked bytes → Looks bytes r
+looks-as bytes e = record { answer = e; number-is = ap lookedNumber e; value-is = ap lookedValue e }
 
-pub look-refused : (bytes : List ℕ) (why : Refusal) → readHeader (unpack bytes) ≡ refused why → answer.Refused why ≡ looked bytes
+-- a file that begins with a header of some settings shows these
+pub look-settings : (bytes : List ℕ) (S : Settings) (at : ℕ) → Begins (unpack bytes) S at → Looks bytes (answer.Settings S)
 unfolding looked
-look-refused bytes why e = sym (ap shown e)
+look-settings bytes S at b = looks-as bytes (sym (ap shown (b .read) ∙ ap answer.Settings (b .settings)))
+
+pub look-refused : (bytes : List ℕ) (why : Refusal) → readHeader (unpack bytes) ≡ refused why → Looks bytes (answer.Refused why)
+unfolding looked
+look-refused bytes why e = looks-as bytes (sym (ap shown e))
 
 -- ---- the look and opening
 

@@ -1,19 +1,17 @@
 -- Which refusals the reader's parts give: those of the header touch nothing, and every value is at most the house limit on samples.
 use mathlib.Core.Path.{_≡_, refl, subst}
-use mathlib.Core.Logic.{_⊎_, inl, inr, ⊎-elim}
-use mathlib.Core.Bool.{Bool, true, false, cond, not, _||_, _&&_}
-use mathlib.Core.List.{List, [], _∷_, _++_}
-use Prim.Native.Nat.{ℕ, zero, suc, _+_, _-_, _*_, _<_, _≤_}
+use mathlib.Core.Bool.{Bool, true, false, cond}
+use mathlib.Core.List.{List, [], _∷_}
+use Prim.Native.Nat.{ℕ, suc, _+_, _-_, _*_, _≤_}
 use native.Mathlib.Omega.{arith}
-use lib.IntN.{ℤ, pos}
-use lib.ListN.{length, replicate}
+use lib.IntN.{ℤ}
+use lib.ListN.{length}
 use Rattle.bitstream.specs.Stream.{Parsed, ok, short, bad, unpack}
 use Rattle.refusals.specs.declared.Refusal.{Refusal}
 use Rattle.refusals.specs.declared.Refusal.the-variants.{EndsInHeader, IllegalField, HouseLimit, BlockCoder, BodyEnds, BadCodeword}
-use Rattle.refusals.specs.declared.Checked.{Checked}
-use Rattle.refusals.specs.declared.Checked.the-variants.{Passed, Refused}
+use Rattle.refusals.specs.declared.Checked.the-variants.{Refused}
 use Rattle.refusals.specs.Refusals.{value, clears}
-use Rattle.refusals.specs.Tests.{Test, _⇒_, firstHit}
+use Rattle.refusals.specs.Tests.{Test, firstHit}
 use Rattle.refusals.specs.Reading.{Read, got, refused, andThen, unless}
 use Rattle.settings.specs.declared.Image.{Image}
 use Rattle.settings.specs.declared.Predictor.{Predictor}
@@ -28,7 +26,7 @@ use Rattle.header.specs.HeaderLaws.{read-header}
 use Rattle.body.specs.Order.{Place, order}
 use Rattle.body.specs.OrderLaws.{length-order}
 use Rattle.body.specs.Body.{mappedOff, restored, readBody}
-use Rattle.cube.specs.Open.{Cube, Lent, atEnd, behindHeader, openedBits, opened}
+use Rattle.cube.specs.Open.{Lent, atEnd, behindHeader, openedBits, opened}
 
 -- Q holds of a refusal there
 pub record Refuses (Q : Refusal → Type 0) {A : Type 0} (x : Read A) : Type 0 where

@@ -1,6 +1,5 @@
 // The look: the settings alone, read off the header; nothing behind it is looked at.
-ghost use mathlib.Core.Path.{_≡_};
-ghost use Rattle.cube.specs.Look.{looked};
+ghost use Rattle.cube.specs.Areas.{Looks};
 use header_reader::read::HeaderRead;
 use header_reader::read::read_header;
 use refusals::Refusal;
@@ -14,7 +13,7 @@ pub enum Looked {
 
 // The settings of a file, or why its header is refused.
 pub fn look(file: &[u8]) -> Looked
-    ensures { λ r. ⌜ r ≡ looked (now (file .entry)) ⌝ }
+    ensures { λ r. ⌜ Looks (now (file .entry)) r ⌝ }
 {
     match read_header(file) {
         HeaderRead::Header(settings, _) => Looked::Settings(settings),

@@ -11,11 +11,9 @@ use header::write::write_header;
 use refusals::Checked;
 use refusals::Refusal;
 use settings::Settings;
-ghost use mathlib.Core.Path.{_≡_};
 ghost use lib.ListN.{length};
 ghost use Rattle.settings.specs.CheckLaws.{Fine};
-ghost use Rattle.cube.specs.File.{lengthAnswer};
-ghost use Rattle.cube.specs.Areas.{Packs};
+ghost use Rattle.cube.specs.Areas.{Packs, Lengths};
 ghost use Rattle.cube.specs.Writing.{Written};
 
 // The file of what passed the tests, as far as the output holds it, and its length in bytes.
@@ -75,7 +73,7 @@ pub fn pack(
 
 // The length of the file that packing would make, written nowhere.
 pub fn length(s: Settings, tables: &[i32], samples: &[i32], scratch: &mut [i32]) -> Packed
-    ensures { λ r. ⌜ r ≡ lengthAnswer s (now (tables .entry)) (now (samples .entry)) (length (now (scratch .entry))) ⌝ }
+    ensures { λ r. ⌜ Lengths s (now (tables .entry)) (now (samples .entry)) (now (scratch .entry)) r ⌝ }
 {
     let checked = check_pack(s, tables, samples, scratch.len());
     match checked {

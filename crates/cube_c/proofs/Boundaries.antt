@@ -1,31 +1,28 @@
 -- The boundary's statements from those of the cube's calls and the outcomes of the boundary's own tests.
 use mathlib.Core.Path.{_≡_, refl, sym, _∙_, ap, subst}
 use mathlib.Core.Bool.{Bool, true, false, cond, not}
-use mathlib.Core.List.{List, [], _∷_}
+use mathlib.Core.List.{List}
 use Prim.Native.Nat.{ℕ, _≤_, _<_}
 use native.Mathlib.Omega.{arith}
-use lib.IntN.{ℤ, pos}
+use lib.IntN.{ℤ}
 use lib.ListN.{length}
 use lib.Dec.{ltb}
 use Rattle.bitstream.specs.Stream.{unpack}
 use Rattle.refusals.specs.declared.Refusal.{Refusal}
 use Rattle.refusals.specs.declared.Refusal.the-variants.{IllegalSetting, WrongCount}
-use Rattle.refusals.specs.declared.Checked.{Checked}
 use Rattle.refusals.specs.declared.Checked.the-variants as checking
 use Rattle.refusals.specs.Refusals.{value, clears}
 use Rattle.refusals.specs.Tests.{firstHit}
-use Rattle.refusals.specs.Reading.{Read, refused}
 use Rattle.settings.specs.declared.Settings.{Settings}
 use Rattle.header.specs.Read.{readHeader}
 use Rattle.cube.specs.declared.Packed.{Packed}
-use Rattle.cube.specs.declared.Packed.the-variants as packing
 use Rattle.cube.specs.declared.Opened.{Opened}
-use Rattle.cube.specs.File.{lengthAnswer, packed}
-use Rattle.cube.specs.Open.{Cube, opened}
-use Rattle.cube.specs.Areas.{outAfter, openAnswer, imageAfter, tablesAfter, lentOf, Packs, Opens}
+use Rattle.cube.specs.File.{lengthAnswer}
+use Rattle.cube.specs.Answers.{packedNumber, packedValue, openedNumber, openedValue}
+use Rattle.cube.specs.Areas.{outAfter, openAnswer, imageAfter, tablesAfter, lentOf, Packs, Lengths, Opens}
 use Rattle.settings_slots.specs.Slots.{slotCount, holds, settingsFrom, slotsChecked}
-use Rattle.cube_c.specs.Answer.{valueLimit, refusalWord, packedValue, packedWord, openedValue, openedWord, lookedValue, lookedWord}
-use Rattle.cube_c.specs.Boundary.{boundaryLength, boundaryPacked, boundaryOpened, lookAnswer, boundaryLooked, slotsAfter, CPacks, CLengths, COpens, CLooks}
+use Rattle.cube_c.specs.Answer.{valueLimit, refusalWord, packedWord, openedWord, lookedValue, lookedWord}
+use Rattle.cube_c.specs.Boundary.{boundaryLength, boundaryPacked, lookAnswer, slotsAfter, CPacks, CLengths, COpens, CLooks}
 use Rattle.cube_c.specs.BoundaryLaws.{slots-small, length-small, packed-small, opened-short, opened-long, looked-short, looked-long, Fit, opened-fits, looked-fits}
 
 -- ---- pack and length
@@ -42,7 +39,7 @@ slots-clear-nothing slots w e = go (ltb (length slots) slotCount) (not (holds sl
 
 pub packs-refused : (slots tables samples scratch : List ℤ) (out : List ℕ) (w : Refusal) {r : ℕ} → slotsChecked slots ≡ checking.Refused w → r ≡ refusalWord w
     → CPacks slots tables samples scratch out r out
-unfolding boundaryPacked packedWord outAfter
+unfolding boundaryPacked packedWord packedNumber packedValue outAfter
 packs-refused slots tables samples scratch out w e p =
     let k = slots-clear-nothing slots w e in
     record { answer = rw e p; output = rw (e, k) }
@@ -56,20 +53,20 @@ packs-passed slots tables samples scratch out {S} {p} {r} {o} e s k q =
 
 pub lengths-refused : (slots tables samples scratch : List ℤ) (w : Refusal) {r : ℕ} → slotsChecked slots ≡ checking.Refused w → r ≡ refusalWord w
     → CLengths slots tables samples scratch r
-unfolding boundaryLength packedWord
+unfolding boundaryLength packedWord packedNumber packedValue
 lengths-refused slots tables samples scratch w e p = record { answer = rw e p }
 
 pub lengths-passed : (slots tables samples scratch : List ℤ) {S : Settings} {p : Packed} {r : ℕ} → slotsChecked slots ≡ checking.Passed → S ≡ settingsFrom slots
-    → p ≡ lengthAnswer S tables samples (length scratch) → r ≡ packedWord p → CLengths slots tables samples scratch r
+    → Lengths S tables samples scratch p → r ≡ packedWord p → CLengths slots tables samples scratch r
 unfolding boundaryLength
 lengths-passed slots tables samples scratch e s k q =
-    record { answer = rw e (q ∙ ap packedWord (k ∙ ap (λ (T : Settings). lengthAnswer T tables samples (length scratch)) s)) }
+    record { answer = rw e (q ∙ ap packedWord (k .answer ∙ ap (λ (T : Settings). lengthAnswer T tables samples (length scratch)) s)) }
 
 -- ---- open and look
 
 pub opens-short : (bytes : List ℕ) (scratch tables image slots : List ℤ) {r : ℕ} → length slots < slotCount → r ≡ refusalWord WrongCount
     → COpens bytes scratch tables image slots r tables image slots
-unfolding openAnswer openedWord tablesAfter imageAfter slotsAfter clears
+unfolding openAnswer openedWord openedNumber openedValue tablesAfter imageAfter slotsAfter clears
 opens-short bytes scratch tables image slots h q =
     let e = opened-short slots (lentOf scratch tables image) bytes h in
     record { answer = rw e q; table-area = rw e; image-area = rw e; settings-area = rw e }
@@ -103,8 +100,8 @@ refused-small slots w e = let k = slots-small slots w e in omega arith
 pub packs-small : (S : Settings) (tables samples scratch : List ℤ) (out : List ℕ) {p : Packed} {o : List ℕ} → Packs S tables samples scratch out p o → packedValue p < valueLimit
 packs-small S tables samples scratch out k = let m = packed-small S tables samples (length scratch) (length out) in rw (k .answer) (omega arith)
 
-pub lengths-small : (S : Settings) (tables samples scratch : List ℤ) {p : Packed} → p ≡ lengthAnswer S tables samples (length scratch) → packedValue p < valueLimit
-lengths-small S tables samples scratch k = let m = length-small S tables samples (length scratch) in rw k (omega arith)
+pub lengths-small : (S : Settings) (tables samples scratch : List ℤ) {p : Packed} → Lengths S tables samples scratch p → packedValue p < valueLimit
+lengths-small S tables samples scratch k = let m = length-small S tables samples (length scratch) in rw (k .answer) (omega arith)
 
 pub opens-fit : (bytes : List ℕ) (scratch tables image : List ℤ) {p : Opened} {t i : List ℤ} → Opens bytes scratch tables image p t i → Fit openedValue p
 opens-fit bytes scratch tables image k = rw (k .answer) (opened-fits (lentOf scratch tables image) bytes)

@@ -3,13 +3,12 @@ use Prim.Native.Nat.{ℕ, _+_, _*_, _^_}
 use Rattle.refusals.specs.declared.Refusal.{Refusal}
 use Rattle.refusals.specs.Refusals.{number, value}
 use Rattle.settings.specs.declared.Settings.{Settings}
-use Rattle.settings.specs.Legal.{sampleCount}
 use Rattle.cube.specs.declared.Packed.{Packed}
-use Rattle.cube.specs.declared.Packed.the-variants as packing
 use Rattle.cube.specs.declared.Opened.{Opened}
 use Rattle.cube.specs.declared.Opened.the-variants as opening
 use Rattle.cube.specs.declared.look.Looked.{Looked}
 use Rattle.cube.specs.declared.look.Looked.the-variants as looking
+use Rattle.cube.specs.Answers.{packedNumber, packedValue, openedNumber, openedValue}
 
 -- what the value is kept below
 abbrev pub valueLimit : ℕ
@@ -23,25 +22,13 @@ wordOf n v = n * valueLimit + v
 abbrev pub refusalWord : Refusal → ℕ
 refusalWord w = wordOf (number w) (value w)
 
--- the value of pack and length: the file's length
-unfoldable pub packedValue : Packed → ℕ
-packedValue (packing.Length n) = n
-packedValue (packing.Refused w) = value w
-
 -- the word that pack and length answer
 unfoldable pub packedWord : Packed → ℕ
-packedWord (packing.Length n) = wordOf 0 n
-packedWord (packing.Refused w) = refusalWord w
-
--- the value of open: Nx·Ny·Nz
-unfoldable pub openedValue : Opened → ℕ
-openedValue (opening.Settings S) = sampleCount (S .image)
-openedValue (opening.Refused w) = value w
+packedWord r = wordOf (packedNumber r) (packedValue r)
 
 -- the word that open answers
 unfoldable pub openedWord : Opened → ℕ
-openedWord (opening.Settings S) = wordOf 0 (sampleCount (S .image))
-openedWord (opening.Refused w) = refusalWord w
+openedWord r = wordOf (openedNumber r) (openedValue r)
 
 -- the answer of a look as that of an opening
 unfoldable pub openedOf : Looked → Opened

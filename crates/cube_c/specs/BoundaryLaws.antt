@@ -1,12 +1,12 @@
 -- The boundary's calls have one answer each, and every value in an answer is below 2^56.
-use mathlib.Core.Path.{_≡_, refl, sym, _∙_, ap, subst}
-use mathlib.Core.Bool.{Bool, true, false, cond, not}
+use mathlib.Core.Path.{_≡_, refl, sym, _∙_, subst}
+use mathlib.Core.Bool.{Bool, true, false, cond}
 use mathlib.Core.List.{List, [], _∷_}
 use Prim.Native.Nat.{ℕ, _+_, _-_, _^_, _≤_, _<_}
 use native.Mathlib.Decide.{decLe}
 use native.Mathlib.Omega.{arith}
-use lib.IntN.{ℤ, pos}
-use lib.ListN.{length, replicate}
+use lib.IntN.{ℤ}
+use lib.ListN.{length}
 use lib.Dec.{ltb, eqb}
 use borrow.Author.Tests.{not-false, ltb-true, ltb-false, lt-ltb, le-ltb, eqb-true}
 use Rattle.bitstream.specs.Stream.{unpack}
@@ -18,7 +18,7 @@ use Rattle.refusals.specs.Refusals.{value}
 use Rattle.refusals.specs.Tests.{Test, firstHit}
 use Rattle.refusals.specs.TestLaws.{passes-all}
 use Rattle.refusals.specs.Reading.{Read, got, refused}
-use Rattle.refusals.specs.ReadingLaws.{sequenced, passed, no-test}
+use Rattle.refusals.specs.ReadingLaws.{passed}
 use Rattle.settings.specs.declared.Settings.{Settings}
 use Rattle.settings.specs.Legal.{settingsLegal, limited, sampleCount}
 use Rattle.settings.specs.Limits.{mostSamples, mostFileBytes}
@@ -30,20 +30,20 @@ use Rattle.header_reader.specs.Answers.{answered}
 use Rattle.header.specs.Write.{usedSettings}
 use Rattle.cube.specs.declared.look.Looked.the-variants as looking
 use Rattle.header.specs.HeaderLaws.{read-header}
-use Rattle.body.specs.Order.{order}
-use Rattle.body.specs.Body.{readBody}
 use Rattle.cube.specs.declared.Packed.{Packed}
 use Rattle.cube.specs.declared.Packed.the-variants as packing
 use Rattle.cube.specs.declared.Opened.{Opened}
 use Rattle.cube.specs.declared.Opened.the-variants as opening
-use Rattle.cube.specs.File.{file, lengthAnswer, packed}
-use Rattle.cube.specs.Open.{Cube, Lent, atEnd, behindHeader, openedBits, opened}
+use Rattle.cube.specs.File.{lengthAnswer, packed}
+use Rattle.cube.specs.Open.{Cube, Lent, opened}
+use Rattle.cube.specs.Answers.{packedValue, openedValue}
 use Rattle.cube.specs.Areas.{openAnswer}
 use Rattle.cube.specs.SizeLaws.{samples-few, file-most}
 use Rattle.cube.specs.Look.{looked}
+use Rattle.cube.specs.LookLaws.{opened-headed, header-refused}
 use Rattle.cube.specs.ValueLaws.{Refuses, Most, opened-within}
 use Rattle.settings_slots.specs.Slots.{slotCount, holds, settingsFrom, slotsChecked}
-use Rattle.cube_c.specs.Answer.{valueLimit, packedValue, openedValue, lookedValue, openedOf}
+use Rattle.cube_c.specs.Answer.{valueLimit, lookedValue, openedOf}
 use Rattle.cube_c.specs.UsedLaws.{small}
 use Rattle.cube_c.specs.Boundary.{answeredUnless, boundaryLength, boundaryPacked, boundaryOpened, lookAnswer, boundaryLooked, Storable, CPacks, CLengths, COpens, CLooks}
 
@@ -178,34 +178,8 @@ pub record Given (S : Settings) : Type 0 where
 pub header-given : (l r : List Bool) (h : Header) → readHeader l ≡ got h r → Given (h .settings)
 header-given l r h e = let k = read-header l r h e in record { legal = k .legal; within = k .limited; named = k .settings }
 
-end-settings : (h : Header) (end : ℕ) (x : List ℤ) (l : List Bool) (c : Cube) (r : List Bool) → atEnd h end x l ≡ got c r → h .settings ≡ c .settings
-unfolding atEnd
-end-settings h end x l c r e =
-    let p = passed _ _ _ _ c r e in
-    let q = passed _ _ _ _ c r (p .1) in
-    let g = sym (no-test _) ∙ q .1 in
-    ap settingsIn g
-  where
-    settingsIn : Read Cube → Settings
-    settingsIn (got d s) = d .settings
-    settingsIn (refused w) = h .settings
-
-behind-settings : (lent : Lent) (size : ℕ) (h : Header) (l : List Bool) (c : Cube) (r : List Bool) → behindHeader lent size h l ≡ got c r → h .settings ≡ c .settings
-unfolding behindHeader
-behind-settings lent size h l c r e =
-    let p = passed _ _ _ _ c r e in
-    let q = passed _ _ _ _ c r (p .1) in
-    let s = sequenced
-    (readBody (h .settings) (h .tables) 0 (order (h .settings .image)) (replicate (sampleCount (h .settings .image)) (pos 0)) l)
-    (λ samples rest. atEnd h (size - length rest) samples rest) c r (sym (no-test _) ∙ q .1) in
-    end-settings h (size - length (s .behind)) (s .value) (s .behind) c r (s .then)
-
 pub opened-given : (lent : Lent) (bytes : List ℕ) (c : Cube) (r : List Bool) → opened lent bytes ≡ got c r → Given (c .settings)
-unfolding opened openedBits
-opened-given lent bytes c r e =
-    let s = sequenced _ _ c r e in
-    let h = s .value in
-    subst Given (behind-settings lent _ h (s .behind) c r (s .then)) (header-given (unpack bytes) (s .behind) h (s .first))
+opened-given lent bytes c r e = let h = opened-headed lent bytes c r e in subst Given (h .settings) (header-given (unpack bytes) (h .behind) (h .header) (h .read))
 
 -- too few slots decide, and enough leave the rest to the reader
 pub opened-short : (slots : List ℤ) (lent : Lent) (bytes : List ℕ) → length slots < slotCount → boundaryOpened slots lent bytes ≡ refused WrongCount
@@ -247,11 +221,6 @@ looked-is bytes = go (readHeader (unpack bytes))
     go : (x : Read Header) → openedOf (answered (λ h. looking.Settings (h .settings)) looking.Refused x) ≡ lookAnswer x
     go (got h r) = refl
     go (refused w) = refl
-
--- a header's refusal is also the file's
-header-refused : (lent : Lent) (bytes : List ℕ) (w : Refusal) → readHeader (unpack bytes) ≡ refused w → opened lent bytes ≡ refused w
-unfolding opened openedBits
-header-refused lent bytes w e = rw e
 
 look-fits : (x : Read Header) → ((w : Refusal) → x ≡ refused w → value w ≤ mostSamples) → ((h : Header) (r : List Bool) → x ≡ got h r → Given (h .settings)) → Fit lookedValue (lookAnswer x)
 unfolding lookAnswer lookedValue Storable

@@ -11,7 +11,8 @@ ghost use Prim.Native.Nat.{_≤_, _<_, _^_};
 ghost use lib.ListN.{length};
 ghost use Rattle.refusals.specs.Refusals.{value};
 ghost use Rattle.settings_slots.specs.Slots.{slotCount};
-ghost use Rattle.cube_c.specs.Answer.{valueLimit, wordOf, refusalWord, packedValue, packedWord, openedValue, openedWord, lookedValue, lookedWord, openedOf};
+ghost use Rattle.cube.specs.Answers.{packedValue, openedValue};
+ghost use Rattle.cube_c.specs.Answer.{valueLimit, wordOf, refusalWord, packedWord, openedWord, lookedValue, lookedWord, openedOf};
 ghost use Rattle.cube_c.specs.Boundary.{Storable, slotsAfter};
 
 // What the value of an answer is kept below, 2^56: the number stands above it.

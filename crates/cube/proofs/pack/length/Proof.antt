@@ -1,19 +1,13 @@
 -- The length is that of the file, which is written nowhere: an empty part of one byte is lent.
-use mathlib.Core.Path.{_≡_, sym, _∙_, ap}
-use Prim.Native.Nat.{ℕ}
+use mathlib.Core.Path.{sym, _∙_, ap}
 use lib.ListN.{length}
 use Rattle.settings.specs.CheckLaws.{fine}
-use Rattle.cube.specs.File.{lengthAnswer}
 use Rattle.cube.specs.PackLaws.{length-fine}
 use Rattle.cube.specs.declared.Packed.the-variants as packing
-use Rattle.cube.proofs.Packings.{length-refused}
+use Rattle.cube.proofs.Packings.{lengths-as, length-refused}
 use borrow.Author.Needs.{needs}
 use Rattle.cube.proofs.pack.length.Statement.{statement}
 use Rattle.cube.proofs.pack.length.Tie as tie
-use Rattle.cube.proofs.pack.length.Reads as reads
-use Rattle.cube.proofs.pack.length.Lts as lts
-use Rattle.cube.proofs.pack.write_file.Reads as write-file-reads
-use Rattle.checks.proofs.check.check_pack.Reads as check-pack-reads
 
 -- src/pack.rt:92:9
 check-pack-requires : tie.Need-check-pack-requires
@@ -50,13 +44,14 @@ returns : tie.Need-returns
 returns c =
     let a = c .before .before .before .before .before .before .before .before .args in
     let f = fine (a .s) (a .tables .now) (a .samples .now) (length (a .scratch .now)) (sym (c .before .before .before .before .before .before .before .check-pack .ensures) ∙ c .before .before .before .before .before .enum-told .given .1) in
-    ap packing.Length (c .before .before .write-file .ensures .size) ∙ sym (length-fine (a .s) (a .tables .now) (a .samples .now) (length (a .scratch .now)) f)
+    lengths-as (a .s) (a .tables .now) (a .samples .now) (a .scratch .now) (ap packing.Length (c .before .before .write-file .ensures .size) ∙ sym (length-fine (a .s) (a .tables .now) (a .samples .now) (length (a .scratch .now)) f))
 
 -- src/pack.rt:89:1
 returns-2 : tie.Need-returns-2
 returns-2 c =
     let a = c .before .before .before .before .args in
-    length-refused (a .s) (a .tables .now) (a .samples .now) (length (a .scratch .now)) _ (sym (c .before .before .before .check-pack .ensures) ∙ c .before .checked .given .1)
+    lengths-as (a .s) (a .tables .now) (a .samples .now) (a .scratch .now)
+    (length-refused (a .s) (a .tables .now) (a .samples .now) (length (a .scratch .now)) _ (sym (c .before .before .before .check-pack .ensures) ∙ c .before .checked .given .1))
 
 pub length-spec : {M : Type 1} → statement M
 length-spec =

@@ -1,7 +1,8 @@
 -- Each arm is the definition's clause.
 use mathlib.Core.Path.{_≡_, _∙_, sym, ap}
 use native.Mathlib.Omega.{arith}
-use Rattle.cube_c.specs.Answer.{wordOf, openedValue, openedWord}
+use Rattle.cube.specs.Answers.{openedNumber, openedValue}
+use Rattle.cube_c.specs.Answer.{wordOf, openedWord}
 use borrow.Author.Needs.{needs}
 use Rattle.cube_c.proofs.answer.opened_word.Statement.{statement}
 use Rattle.cube_c.proofs.answer.opened_word.Tie as tie
@@ -25,11 +26,11 @@ unfolding openedValue
 refusal-word-requires c κs = let e = ap openedValue (c .before .r2 .given .1) in omega arith
 
 returns : tie.Need-returns
-unfolding openedWord
+unfolding openedWord openedNumber openedValue
 returns c = c .word .ensures ∙ ap (wordOf 0) (c .before .sample-count .ensures) ∙ sym (ap openedWord (c .before .before .before .r .given .1))
 
 returns-2 : tie.Need-returns-2
-unfolding openedWord
+unfolding openedWord openedNumber openedValue
 returns-2 c = c .refusal-word .ensures ∙ sym (ap openedWord (c .before .before .r2 .given .1))
 
 pub opened-word-spec : {M : Type 1} → statement M

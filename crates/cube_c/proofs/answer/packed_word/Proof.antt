@@ -1,7 +1,8 @@
 -- Each arm is the definition's clause.
 use mathlib.Core.Path.{_≡_, _∙_, sym, ap}
 use native.Mathlib.Omega.{arith}
-use Rattle.cube_c.specs.Answer.{packedValue, packedWord}
+use Rattle.cube.specs.Answers.{packedNumber, packedValue}
+use Rattle.cube_c.specs.Answer.{packedWord}
 use borrow.Author.Needs.{needs}
 use Rattle.cube_c.proofs.answer.packed_word.Statement.{statement}
 use Rattle.cube_c.proofs.answer.packed_word.Tie as tie
@@ -21,11 +22,11 @@ unfolding packedValue
 refusal-word-requires c κs = let e = ap packedValue (c .before .r2 .given .1) in omega arith
 
 returns : tie.Need-returns
-unfolding packedWord
+unfolding packedWord packedNumber packedValue
 returns c = c .word .ensures ∙ sym (ap packedWord (c .before .before .r .given .1))
 
 returns-2 : tie.Need-returns-2
-unfolding packedWord
+unfolding packedWord packedNumber packedValue
 returns-2 c = c .refusal-word .ensures ∙ sym (ap packedWord (c .before .before .r2 .given .1))
 
 pub packed-word-spec : {M : Type 1} → statement M

@@ -25,12 +25,12 @@ looked-answer-requires c κs = search needs
 put-answer-requires : tie.Need-put-answer-requires
 put-answer-requires c κs =
     let f = c .before .before .before .before .before .args .file .now in
-    (c .before .before .before .if1 .left, looks-fit f (c .before .looked-answer .ensures ∙ ap openedOf (c .before .before .look .ensures) ∙ looked-is f) .storable)
+    (c .before .before .before .if1 .left, looks-fit f (c .before .looked-answer .ensures ∙ ap openedOf (c .before .before .look .ensures .answer) ∙ looked-is f) .storable)
 
 looked-word-requires : tie.Need-looked-word-requires
 looked-word-requires c κs =
     let f = c .before .before .before .before .before .before .before .args .file .now in
-    looks-fit f (c .before .before .before .looked-answer .ensures ∙ ap openedOf (c .before .before .before .before .look .ensures) ∙ looked-is f) .value-small
+    looks-fit f (c .before .before .before .looked-answer .ensures ∙ ap openedOf (c .before .before .before .before .look .ensures .answer) ∙ looked-is f) .value-small
 
 same-length : tie.Need-same-length
 same-length c = search needs
@@ -39,7 +39,7 @@ returns-2 : tie.Need-returns-2
 returns-2 c =
     let f = c .before .before .before .before .before .before .before .before .args .file .now in
     looks-long f (c .before .before .before .before .before .before .before .before .args .settings .now) (c .before .before .before .before .before .before .if1 .left)
-    (c .before .before .before .before .looked-answer .ensures ∙ ap openedOf (c .before .before .before .before .before .look .ensures) ∙ looked-is f) (c .looked-word .ensures) (c .before .before .put-answer .ensures)
+    (c .before .before .before .before .looked-answer .ensures ∙ ap openedOf (c .before .before .before .before .before .look .ensures .answer) ∙ looked-is f) (c .looked-word .ensures) (c .before .before .put-answer .ensures)
 
 pub remulingka-look-spec : {M : Type 1} → statement M
 remulingka-look-spec =
