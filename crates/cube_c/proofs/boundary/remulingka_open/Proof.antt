@@ -17,10 +17,10 @@ open-requires : tie.Need-open-requires
 open-requires c κs = search needs
 
 put-answer-requires : tie.Need-put-answer-requires
-put-answer-requires c κs = (c .before .before .before .before .before .before .before .before .if1 .left, opens-fit (c .before .before .before .before .before .before .before .before .before .before .args .file .now) (c .before .before .before .before .before .before .before .before .before .before .args .scratch .now) (c .before .before .before .before .before .before .before .before .before .before .args .tables .now) (c .before .before .before .before .before .before .before .before .before .before .args .image .now) (c .before .before .before .before .«open» .ensures) .storable)
+put-answer-requires c κs = (c .before .before .before .before .before .before .before .before .if1 .left, opens-fit _ _ _ _ (c .before .before .before .before .«open» .ensures) .storable)
 
 opened-word-requires : tie.Need-opened-word-requires
-opened-word-requires c κs = opens-fit (c .before .before .before .before .before .before .before .before .before .before .before .before .args .file .now) (c .before .before .before .before .before .before .before .before .before .before .before .before .args .scratch .now) (c .before .before .before .before .before .before .before .before .before .before .before .before .args .tables .now) (c .before .before .before .before .before .before .before .before .before .before .before .before .args .image .now) (c .before .before .before .before .before .before .«open» .ensures) .value-small
+opened-word-requires c κs = opens-fit _ _ _ _ (c .before .before .before .before .before .before .«open» .ensures) .value-small
 
 same-length : tie.Need-same-length
 same-length c = search needs

@@ -25,7 +25,7 @@ pack-requires : tie.Need-pack-requires
 pack-requires c κs = search needs
 
 packed-word-requires : tie.Need-packed-word-requires
-packed-word-requires c κs = packs-small (c .before .before .before .before .before .before .settings-from .result) (c .before .before .before .before .before .before .before .before .before .before .before .args .tables .now) (c .before .before .before .before .before .before .before .before .before .before .before .args .samples .now) (c .before .before .before .before .before .before .before .before .before .before .before .args .scratch .now) (c .before .before .before .before .before .before .before .before .before .before .before .args .out .now) (c .before .before .before .pack .ensures)
+packed-word-requires c κs = packs-small _ _ _ _ _ (c .before .before .before .pack .ensures)
 
 enum-known-w : tie.Need-enum-known-w
 enum-known-w c = search needs
