@@ -1,3 +1,1 @@
-// The body: the codes of all values in their order (5.4), and what both walks over them look up and keep for each band.
-pub mod band;
-pub mod plan;
+// Section 5.4 of the standard, the order and the body, as definitions and laws: see specs/. Its functions are those of `body_value` and `body_walk`.

@@ -11,7 +11,7 @@ use Rattle.bitstream.specs.declared.write.Tail.{Tail}
 use Rattle.bitstream.specs.Stream.{Bytes, zeros, filling, filled, pack}
 use Rattle.bitstream.specs.Laws.{length-pack, filling-lt}
 use Rattle.bitstream.specs.Writer.{Holds, Put, Done}
-use Rattle.bitstream.proofs.Writes.{further, put-then, put-filled, done-file}
+use Rattle.bitstream.proofs.Writes.{further, put-as, put-then, put-filled, done-file}
 use Rattle.settings.specs.declared.Settings.{Settings}
 use Rattle.settings.specs.Limits.{mostBodyBits}
 use Rattle.settings.specs.LegalLaws.{legal-settings, limited-facts}
@@ -20,10 +20,11 @@ use Rattle.settings.specs.CheckLaws.{Fine}
 use Rattle.header.specs.Write.{header}
 use Rattle.header.specs.Sizes.{mostHeaderBits}
 use Rattle.header.specs.SizeLaws.{header-bits-most}
-use Rattle.body.specs.declared.plan.Plan.{Plan}
 use Rattle.body.specs.Body.{body}
-use Rattle.body.specs.Plan.{planOf}
-use Rattle.body.specs.Walk.{Starts}
+use Rattle.body_value.specs.declared.plan.Plan.{Plan}
+use Rattle.body_value.specs.Plan.{planOf}
+use Rattle.body_value.proofs.Plans.{planned}
+use Rattle.body_walk.specs.Whole.{Starts}
 use Rattle.cube.specs.File.{fileBits, file}
 use Rattle.cube.specs.Writing.{Written}
 use Rattle.cube.specs.SizeLaws.{body-most}
@@ -50,18 +51,20 @@ file-written S tables samples {t0} {t1} {t2} {t3} {o} {o1} {o2} {o3} {o4} n star
 -- ---- what each step asks for
 
 pub fine-starts : (S : Settings) (P : Plan) (tables samples scratch scratch′ : List ℤ) (k : Tail) → Fine S tables samples (length scratch) → P ≡ planOf S
-    → length scratch′ ≡ length scratch → k .count < 32 → k .at ≤ 2 ^ 32 → Starts S P tables samples scratch′ k
-fine-starts S P tables samples scratch scratch′ k f p l c a = record {
-  given = record {
-    image = record { legal = f .legal; within = f .small; long = f .counted; ranged = all-in-range (S .image) samples (f .in-range) };
-    tables-legal = f .values;
-    tables-long = f .room .tables-hold;
-    planned = p;
-  };
-  long = let h = f .room .scratch-holds in omega arith;
+    → length scratch′ ≡ length scratch → k .count < 32 → k .at ≤ 2 ^ 32 → Starts P tables samples scratch′ k
+unfolding planOf
+fine-starts S P tables samples scratch scratch′ k f p l c a = rw p (record {
+  tabled = record { plan = planned S (f .legal) (f .small); values = f .values; area = f .room .tables-hold; long = let h = f .room .scratch-holds in omega arith };
+  image = record { legal = f .legal; within = f .small; long = f .counted; ranged = all-in-range (S .image) samples (f .in-range) };
   count = c;
   at = a;
-}
+})
+
+-- the body of the plan's settings
+pub body-of : (S : Settings) (P : Plan) (tables samples : List ℤ) {k k′ : Tail} {o o′ : List ℕ} → P ≡ planOf S → Put k o (body (P .settings) tables samples) k′ o′
+    → Put k o (body S tables samples) k′ o′
+unfolding planOf
+body-of S P tables samples p h = put-as (ap (λ (Q : Plan). body (Q .settings) tables samples) p) h
 
 -- where the stream stands behind the header, and behind the body
 pub headed-small : (S : Settings) (tables samples : List ℤ) (n : ℕ) {t0 t1 : Tail} {o o1 : List ℕ} → Fine S tables samples n

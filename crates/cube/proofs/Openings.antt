@@ -2,14 +2,14 @@
 use mathlib.Core.Path.{_≡_, refl, sym, _∙_, ap, subst}
 use mathlib.Core.Bool.{Bool, true, false, cond, false≢true}
 use mathlib.Core.List.{List, [], _∷_, _++_}
-use Prim.Native.Nat.{ℕ, _+_, _-_, _*_, _^_, _<_, _≤_}
+use Prim.Native.Nat.{ℕ, suc, _+_, _-_, _*_, _^_, _<_, _≤_}
 use native.Mathlib.Omega.{arith}
 use lib.IntN.{ℤ, pos}
 use lib.ListN.{length, take, drop, replicate, length-take, length-drop, length-append, length-replicate}
 use lib.Seq.{take-at, drop-at}
 use lib.Dec.{ltb}
 use borrow.Author.Tests.{le-ltb, lt-ltb}
-use Rattle.bitstream.specs.Stream.{unpack}
+use Rattle.bitstream.specs.Stream.{Parsed, ok, short, bad, unpack}
 use Rattle.refusals.specs.declared.Refusal.{Refusal}
 use Rattle.refusals.specs.declared.Refusal.the-variants.{WrongCount, ShortArea, BodyEnds, BadCodeword, AfterEnd}
 use Rattle.refusals.specs.Refusals.{clears}
@@ -28,14 +28,15 @@ use Rattle.header_reader.specs.Answers.{Begins}
 use Rattle.header.specs.Write.{header}
 use Rattle.header.specs.Sizes.{mostHeaderBits}
 use Rattle.header.specs.SizeLaws.{header-bits-most}
-use Rattle.body.specs.Order.{order}
+use Rattle.body.specs.Order.{Place, order}
 use Rattle.body.specs.OrderLaws.{inside-order, sorted-order}
 use Rattle.body.specs.BodyLaws.{places-written}
-use Rattle.body.specs.declared.plan.Plan.{Plan}
-use Rattle.body.specs.Plan.{planOf}
-use Rattle.body_reader.specs.Walk.{Starts, Answer}
+use Rattle.body_value.specs.declared.plan.Plan.{Plan}
+use Rattle.body_value.specs.Plan.{planOf}
+use Rattle.body_value.proofs.Plans.{planned}
+use Rattle.body_walk.specs.Whole.{ReadStarts, Answer}
 use Rattle.predictor.specs.Differences.{imageOf}
-use Rattle.body.specs.Body.{codes, readBody}
+use Rattle.body.specs.Body.{codes, mappedOff, restored, readBody}
 use Rattle.cube.specs.declared.Opened.{Opened}
 use Rattle.cube.specs.declared.Opened.the-variants as opening
 use Rattle.closing.specs.declared.ending.Ending.{Ending}
@@ -44,8 +45,9 @@ use Rattle.cube.specs.Open.{Cube, Lent, atEnd, behindHeader, openedBits,
 use Rattle.closing.specs.Ending.{endOf}
 use Rattle.cube.specs.Ending.{ended, at-end-is}
 use Rattle.cube.specs.Opening.{endAnswer, answerOf, isRefused, Reached, Lendable}
-use Rattle.body_reader.specs.declared.Gone.{Gone}
-use Rattle.body_reader.specs.declared.Gone.the-variants as gone
+use Rattle.body_value.specs.declared.Cursor.{Cursor}
+use Rattle.body_value.specs.declared.Step.{Step}
+use Rattle.body_value.specs.declared.Step.the-variants as step
 use Rattle.cube.specs.Answers.{openedNumber, openedValue}
 use Rattle.cube.specs.Areas.{openAnswer, imageAfter, tablesAfter, lentOf, Opens}
 use Rattle.cube.specs.ValueLaws.{header-keeps}
@@ -165,14 +167,27 @@ module _ (bytes : List ℕ) (scratch tables image : List ℤ) (S : Settings) (at
 
 -- ---- the answer for what the body came to
 
-pub answered : (S : Settings) (F : List Bool) (g : Gone) (a : ℕ) (x e : Ending) → g ≡ gone.At a → x ≡ endOf (S .image .word) a (drop a F) → x ≡ e → endAnswer S e ≡ answerOf S F g
+pub answered : (S : Settings) (F : List Bool) (g : Step) (c : Cursor) (x e : Ending) → g ≡ step.On c → x ≡ endOf (S .image .word) (c .at) (drop (c .at) F) → x ≡ e → endAnswer S e ≡ answerOf S F g
 unfolding answerOf
-answered S F g a x e p q r = ap (endAnswer S) (sym r ∙ q) ∙ sym (ap (answerOf S F) p)
+answered S F g c x e p q r = ap (endAnswer S) (sym r ∙ q) ∙ sym (ap (answerOf S F) p)
 
 -- ---- what opening comes to
 
+-- a body that is refused clears the areas: it ends early or holds a bad codeword
+body-clears : (S : Settings) (tables : List ℤ) (n : ℕ) (ps : List Place) (x : List ℤ) (l : List Bool) (w : Refusal) → readBody S tables n ps x l ≡ refused w → clears w ≡ true
+unfolding readBody clears
+body-clears S tables n [] x l w e = let z : _≡_ {A = ℕ} 0 1 = cc in absurd (omega arith)
+body-clears S tables n (p ∷ ps) x l w e = go (λ y r. body-clears S tables (suc n) ps y r w) (mappedOff S tables (imageOf (S .image) x) p l) e
+  where
+    go : ((y : List ℤ) (r : List Bool) → readBody S tables (suc n) ps y r ≡ refused w → clears w ≡ true) → (d : Parsed)
+        → _≡_ {A = Read (List ℤ)} (elim d as (λ _. Read (List ℤ)) [ ok v r ↦ readBody S tables (suc n) ps (restored S tables p x v) r | short ↦ refused (BodyEnds n) | bad ↦ refused (BadCodeword n) ]) (refused w)
+        → clears w ≡ true
+    go rec (ok v r) e = rec (restored S tables p x v) r e
+    go rec short e = let k : BodyEnds n ≡ w = cc in subst (λ (v : Refusal). clears v ≡ true) k refl
+    go rec bad e = let k : BadCodeword n ≡ w = cc in subst (λ (v : Refusal). clears v ≡ true) k refl
+
 -- what body and end came to, g with the samples x, settles the whole
-pub record Outcome (bytes : List ℕ) (lent : Lent) (S : Settings) (T x : List ℤ) (g : Gone) : Type 0 where
+pub record Outcome (bytes : List ℕ) (lent : Lent) (S : Settings) (T x : List ℤ) (g : Step) : Type 0 where
   pub reached : Reached (unpack bytes) g
   pub answer : answerOf S (unpack bytes) g ≡ openAnswer (opened lent bytes)
   pub whole : isRefused (answerOf S (unpack bytes) g) ≡ false → opened lent bytes ≡ got (record { settings = S; tables = T; samples = x }) []
@@ -181,22 +196,22 @@ pub record Outcome (bytes : List ℕ) (lent : Lent) (S : Settings) (T x : List �
 module _ (bytes : List ℕ) (scratch tables image : List ℤ) (h : Header) (at : ℕ) (e : readHeader (unpack bytes) ≡ got h (drop at (unpack bytes))) (fits : at ≤ length (unpack bytes))
     (room : sampleCount (h .settings .image) ≤ length image) (roomy : Roomy (h .settings) (length scratch) (length tables)) where
   -- the three endings
-  by-end : (x : List ℤ) (a : ℕ) (E : Ending) → Reached (unpack bytes) (gone.At a) → endOf (h .settings .image .word) a (drop a (unpack bytes)) ≡ E
-      → opened (lentOf scratch tables image) bytes ≡ ended h x E → Outcome bytes (lentOf scratch tables image) (h .settings) (h .tables) x (gone.At a)
+  by-end : (x : List ℤ) (c : Cursor) (E : Ending) → Reached (unpack bytes) (step.On c) → endOf (h .settings .image .word) (c .at) (drop (c .at) (unpack bytes)) ≡ E
+      → opened (lentOf scratch tables image) bytes ≡ ended h x E → Outcome bytes (lentOf scratch tables image) (h .settings) (h .tables) x (step.On c)
   unfolding answerOf endAnswer isRefused openAnswer ended clears
-  by-end x a Whole r k o = record {
+  by-end x c Whole r k o = record {
     reached = r;
     answer = ap (endAnswer (h .settings)) k ∙ sym (ap openAnswer o);
     whole = λ _. o;
     refusal = λ q. let z : false ≡ true = sym (ap (λ (E : Ending). isRefused (endAnswer (h .settings) E)) k) ∙ q in absurd (false≢true z);
   }
-  by-end x a TooShort r k o = record {
+  by-end x c TooShort r k o = record {
     reached = r;
     answer = ap (endAnswer (h .settings)) k ∙ sym (ap openAnswer o);
     whole = λ q. let z : true ≡ false = sym (ap (λ (E : Ending). isRefused (endAnswer (h .settings) E)) k) ∙ q in absurd (false≢true (sym z));
     refusal = λ _. (BodyEnds (sampleCount (h .settings .image)), o, refl);
   }
-  by-end x a Behind r k o = record {
+  by-end x c Behind r k o = record {
     reached = r;
     answer = ap (endAnswer (h .settings)) k ∙ sym (ap openAnswer o);
     whole = λ q. let z : true ≡ false = sym (ap (λ (E : Ending). isRefused (endAnswer (h .settings) E)) k) ∙ q in absurd (false≢true (sym z));
@@ -230,28 +245,20 @@ module _ (bytes : List ℕ) (scratch tables image : List ℤ) (h : Header) (at :
       let s = position-small in
       omega arith
 
-  pub outcome : (x : List ℤ) (g : Gone) → Answer (h .settings) (h .tables) (unpack bytes) at (replicate (sampleCount (h .settings .image)) (pos 0)) x g
+  pub outcome : (x : List ℤ) (g : Step) → Answer (h .settings) (h .tables) (unpack bytes) at (replicate (sampleCount (h .settings .image)) (pos 0)) x g
       → Outcome bytes (lentOf scratch tables image) (h .settings) (h .tables) x g
   unfolding answerOf isRefused openAnswer clears
-  outcome x (gone.At a) w =
-      let l : a ≤ length (unpack bytes) = w .inside fits in
-      by-end x a (endOf (h .settings .image .word) a (drop a (unpack bytes))) (l, body-position x a l (w .read)) refl
-      (arrived bytes scratch tables image h at e room roomy x a l (w .read))
-  outcome x (gone.Short r) w =
-      let o = stopped bytes scratch tables image h at e room roomy (BodyEnds r) w in
+  outcome x (step.On c) w =
+      let l : c .at ≤ length (unpack bytes) = w .inside fits in
+      by-end x c (endOf (h .settings .image .word) (c .at) (drop (c .at) (unpack bytes))) (l, body-position x (c .at) l (w .read)) refl
+      (arrived bytes scratch tables image h at e room roomy x (c .at) l (w .read))
+  outcome x (step.Refused r) w =
+      let o = stopped bytes scratch tables image h at e room roomy r w in
       record {
         reached = tt;
         answer = sym (ap openAnswer o);
         whole = λ q. absurd (false≢true (sym q));
-        refusal = λ _. (BodyEnds r, o, refl);
-      }
-  outcome x (gone.Bad r) w =
-      let o = stopped bytes scratch tables image h at e room roomy (BadCodeword r) w in
-      record {
-        reached = tt;
-        answer = sym (ap openAnswer o);
-        whole = λ q. absurd (false≢true (sym q));
-        refusal = λ _. (BadCodeword r, o, refl);
+        refusal = λ _. (r, o, body-clears (h .settings) (h .tables) 0 (order (h .settings .image)) _ (drop at (unpack bytes)) r w);
       }
 
 -- ---- the areas on the way
@@ -306,29 +313,34 @@ module _ (bytes : List ℕ) (scratch tables image : List ℤ) (S : Settings) (at
     pub tables-long : m ≡ length (take m t1)
     tables-long = sym (ap length tables-front ∙ h-long)
 
-    pub begun-starts : (P : Plan) (scratch′ : List ℤ) → P ≡ planOf S → length scratch′ ≡ length scratch → Starts S P (take m t1) (take n (z ++ drop n image)) scratch′ at
+    pub begun-starts : (P : Plan) (scratch′ : List ℤ) → P ≡ planOf S → length scratch′ ≡ length scratch → ReadStarts P (take m t1) (take n (z ++ drop n image)) scratch′ at
+    unfolding planOf
     begun-starts P scratch′ p l =
-        rw (tables-front, front) (record {
-          given = record {
-            image = record {
-              legal = begun-legal bytes scratch tables image S at b;
-              within = begun-limited bytes scratch tables image S at b;
-              long = length-replicate (sampleCount (S .image)) (pos 0);
-              ranged = λ i _. zeros-good S (deep S (begun-legal bytes scratch tables image S at b)) .in-range i;
-            };
-            tables-legal = h-entries;
-            tables-long = let k = h-long in omega arith;
-            planned = p;
+        let legal = begun-legal bytes scratch tables image S at b in
+        let within = begun-limited bytes scratch tables image S at b in
+        rw (p, tables-front, front) (record {
+          tabled = record {
+            plan = planned S legal within;
+            values = h-entries;
+            area = let k = h-long in omega arith;
+            long = let k = L .areas .scratch-holds in omega arith;
           };
-          long = let k = L .areas .scratch-holds in omega arith;
+          image = record {
+            legal = legal;
+            within = within;
+            long = length-replicate (sampleCount (S .image)) (pos 0);
+            ranged = λ i _. zeros-good S (deep S legal) .in-range i;
+          };
           at-most = let k = position-small bytes scratch tables image h at (b .read) (b .fits) h-room h-roomy in omega arith;
         })
 
-    pub begun-outcome : (x : List ℤ) (g : Gone) → Answer S (take m t1) (unpack bytes) at (take n (z ++ drop n image)) x g → Outcome bytes (lentOf scratch tables image) S (h .tables) x g
-    begun-outcome x g a =
+    pub begun-outcome : (P : Plan) → P ≡ planOf S → (x : List ℤ) (g : Step) → Answer (P .settings) (take m t1) (unpack bytes) at (take n (z ++ drop n image)) x g
+        → Outcome bytes (lentOf scratch tables image) S (h .tables) x g
+    unfolding planOf
+    begun-outcome P p x g a =
         subst (λ (T : Settings). Answer T (h .tables) (unpack bytes) at (replicate (sampleCount (T .image)) (pos 0)) x g → Outcome bytes (lentOf scratch tables image) T (h .tables) x g) (b .settings)
         (outcome bytes scratch tables image h at (b .read) (b .fits) h-room h-roomy x g)
-        (rw (tables-front, front) at a)
+        (rw (p, tables-front, front) at a)
 
     -- the image area with its first part read keeps its length
     pub image-long : (x : List ℤ) → length x ≡ length (take n (z ++ drop n image)) → length (x ++ drop n (z ++ drop n image)) ≡ length image
@@ -341,7 +353,7 @@ module _ (bytes : List ℕ) (scratch tables image : List ℤ) (S : Settings) (at
         omega arith
 
     -- all read: the areas hold tables and samples, and behind them what they held
-    pub opens-done : (x : List ℤ) (g : Gone) (r : Opened) → Outcome bytes (lentOf scratch tables image) S (h .tables) x g → length x ≡ n
+    pub opens-done : (x : List ℤ) (g : Step) (r : Opened) → Outcome bytes (lentOf scratch tables image) S (h .tables) x g → length x ≡ n
         → r ≡ answerOf S (unpack bytes) g → isRefused (answerOf S (unpack bytes) g) ≡ false → Opens bytes scratch tables image r t1 (x ++ drop n (z ++ drop n image))
     unfolding tablesAfter imageAfter
     opens-done x g r o l a k =
@@ -351,7 +363,7 @@ module _ (bytes : List ℕ) (scratch tables image : List ℤ) (S : Settings) (at
         (ap (λ (y : List ℤ). x ++ y) (drop-at z (drop n image) n (ap length z-is ∙ length-replicate n (pos 0)) ∙ ap (λ (j : ℕ). drop j image) (sym l)))
 
   -- refused: both areas are cleared whole
-  pub opens-refused : (T x t i : List ℤ) (g : Gone) (r : Opened) → Outcome bytes (lentOf scratch tables image) S T x g → r ≡ answerOf S (unpack bytes) g
+  pub opens-refused : (T x t i : List ℤ) (g : Step) (r : Opened) → Outcome bytes (lentOf scratch tables image) S T x g → r ≡ answerOf S (unpack bytes) g
       → isRefused (answerOf S (unpack bytes) g) ≡ true → t ≡ replicate (length tables) (pos 0) → i ≡ replicate (length image) (pos 0) → Opens bytes scratch tables image r t i
   unfolding openAnswer
   opens-refused T x t i g r o a k p q =

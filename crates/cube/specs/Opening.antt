@@ -5,13 +5,13 @@ use mathlib.Core.List.{List}
 use Prim.Native.Nat.{ℕ, _*_, _^_, _≤_}
 use lib.IntN.{ℤ}
 use lib.ListN.{length, drop}
-use Rattle.refusals.specs.declared.Refusal.the-variants.{BodyEnds, BadCodeword, AfterEnd}
+use Rattle.refusals.specs.declared.Refusal.the-variants.{BodyEnds, AfterEnd}
 use Rattle.settings.specs.declared.Settings.{Settings}
 use Rattle.settings.specs.Legal.{sampleCount, settingsLegal, limited}
 use Rattle.settings.specs.CheckLaws.{Roomy}
 use Rattle.header_reader.specs.Answers.{Begins}
-use Rattle.body_reader.specs.declared.Gone.{Gone}
-use Rattle.body_reader.specs.declared.Gone.the-variants as gone
+use Rattle.body_value.specs.declared.Step.{Step}
+use Rattle.body_value.specs.declared.Step.the-variants as step
 use Rattle.cube.specs.declared.Opened.{Opened}
 use Rattle.cube.specs.declared.Opened.the-variants as opening
 use Rattle.closing.specs.declared.ending.Ending.{Ending}
@@ -25,10 +25,9 @@ endAnswer S TooShort = opening.Refused (BodyEnds (sampleCount (S .image)))
 endAnswer S Behind = opening.Refused (AfterEnd (sampleCount (S .image)))
 
 -- and for what the body came to
-unfoldable pub answerOf : Settings → List Bool → Gone → Opened
-answerOf S F (gone.At a) = endAnswer S (endOf (S .image .word) a (drop a F))
-answerOf S F (gone.Short rank) = opening.Refused (BodyEnds rank)
-answerOf S F (gone.Bad rank) = opening.Refused (BadCodeword rank)
+unfoldable pub answerOf : Settings → List Bool → Step → Opened
+answerOf S F (step.On c) = endAnswer S (endOf (S .image .word) (c .at) (drop (c .at) F))
+answerOf S F (step.Refused w) = opening.Refused w
 
 -- whether an answer is a refusal
 unfoldable pub isRefused : Opened → Bool
@@ -36,10 +35,9 @@ isRefused (opening.Settings S) = false
 isRefused (opening.Refused w) = true
 
 -- the position behind the body lies in the file
-abbrev pub Reached : List Bool → Gone → Type 0
-Reached F (gone.At a) = (a ≤ length F) × (a ≤ 2 ^ 60)
-Reached F (gone.Short rank) = Unit {0}
-Reached F (gone.Bad rank) = Unit {0}
+abbrev pub Reached : List Bool → Step → Type 0
+Reached F (step.On c) = (c .at ≤ length F) × (c .at ≤ 2 ^ 60)
+Reached F (step.Refused w) = Unit {0}
 
 -- a header was read, and memory enough is lent
 pub record Lendable (F : List Bool) (S : Settings) (at : ℕ) (scratch tables image : List ℤ) : Type 0 where

@@ -1,8 +1,8 @@
 // Opening: any bytes, any areas get an answer, and after a refusal no half image is left.
 use super::Opened;
-use body::plan::plan_of;
-use body_reader::Gone;
-use body_reader::walk::read_body;
+use body_value::Step;
+use body_value::plan::plan_of;
+use body_walk::whole::read_body;
 use checks::check::areas_short;
 use closing::clear::clear_slots;
 use closing::ending::Ending;
@@ -23,22 +23,21 @@ ghost use Rattle.cube.specs.Areas.{Opens};
 ghost use Rattle.cube.specs.Opening.{answerOf, isRefused, Reached, Lendable};
 
 // The answer for what the body came to; where it was read, the end of the file decides.
-fn answer_of(file: &[u8], s: Settings, gone: Gone) -> Opened
-    requires { ⌜ (settingsLegal s ≡ true) × (limited (s .image) ≡ true) × Reached (unpack (now file)) gone ⌝ }
-    ensures { λ r. ⌜ r ≡ answerOf s (unpack (now (file .entry))) gone ⌝ }
+fn answer_of(file: &[u8], s: Settings, step: Step) -> Opened
+    requires { ⌜ (settingsLegal s ≡ true) × (limited (s .image) ≡ true) × Reached (unpack (now file)) step ⌝ }
+    ensures { λ r. ⌜ r ≡ answerOf s (unpack (now (file .entry))) step ⌝ }
 {
     let count = sample_count(s.image);
-    match gone {
-        Gone::At(end) => {
-            let ending = end_of(file, end, s.image.word);
+    match step {
+        Step::On(end) => {
+            let ending = end_of(file, end.at, s.image.word);
             match ending {
                 Ending::Whole => Opened::Settings(s),
                 Ending::TooShort => Opened::Refused(Refusal::BodyEnds(count)),
                 Ending::Behind => Opened::Refused(Refusal::AfterEnd(count)),
             }
         }
-        Gone::Short(rank) => Opened::Refused(Refusal::BodyEnds(rank)),
-        Gone::Bad(rank) => Opened::Refused(Refusal::BadCodeword(rank)),
+        Step::Refused(why) => Opened::Refused(why),
     }
 }
 
@@ -69,8 +68,7 @@ fn open_body(
     store_tables(file, s, &mut *tables);
     clear_slots(&mut image[..count]);
     let p = plan_of(s);
-    let gone = read_body(
-        s,
+    let step = read_body(
         p,
         &tables[..entries],
         file,
@@ -78,7 +76,7 @@ fn open_body(
         scratch,
         &mut image[..count],
     );
-    let answer = answer_of(file, s, gone);
+    let answer = answer_of(file, s, step);
     if is_refused(answer) {
         clear_slots(tables);
         clear_slots(image);

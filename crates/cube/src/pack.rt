@@ -3,8 +3,8 @@ use super::Packed;
 use bitstream::write::fill;
 use bitstream::write::finish;
 use bitstream::write::start;
-use body::plan::plan_of;
-use body_writer::walk::write_body;
+use body_value::plan::plan_of;
+use body_walk::whole::write_body;
 use checks::check::check_pack;
 use closing::clear::clear_bytes;
 use header::write::write_header;
@@ -30,7 +30,7 @@ fn write_file(
     let p = plan_of(s);
     let begun = start();
     let headed = write_header(s, tables, begun, &mut *out);
-    let bodied = write_body(s, p, tables, samples, scratch, headed, &mut *out);
+    let bodied = write_body(p, tables, samples, scratch, headed, &mut *out);
     let filled = fill(bodied, &mut *out, s.image.word);
     finish(filled, out)
 }

@@ -5,7 +5,6 @@ use lib.ListN.{length, drop}
 use Rattle.bitstream.specs.Stream.{unpack}
 use Rattle.refusals.specs.declared.Refusal.the-variants.{BodyEnds, AfterEnd}
 use Rattle.settings.specs.LegalLaws.{legal-settings, count-fits}
-use Rattle.body_reader.specs.declared.Gone.{Gone}
 use Rattle.cube.specs.declared.Opened.{Opened}
 use Prim.Native.Nat.{ℕ}
 use Rattle.cube.specs.declared.Opened.the-variants as opening
@@ -26,15 +25,15 @@ sample-count-requires c κs =
     count-fits (a .s .image) (legal-settings (a .s) (c .before .pre .0) .image)
 
 -- src/open.rt:38:18
-enum-known-gone : tie.Need-enum-known-gone
-enum-known-gone c = search needs
+enum-known-step : tie.Need-enum-known-step
+enum-known-step c = search needs
 
 -- src/open.rt:39:17
 end-of-requires : tie.Need-end-of-requires
 end-of-requires c κs =
     let a = c .before .before .before .before .before .args in
     let l = legal-settings (a .s) (c .before .before .before .before .before .pre .0) .image in
-    let r = subst (Reached (unpack (a .file .now))) (c .before .gone .given .1) (c .before .before .before .before .before .pre .2) in
+    let r = subst (Reached (unpack (a .file .now))) (c .before .step .given .1) (c .before .before .before .before .before .pre .2) in
     (l .word-least, l .word-most, omega (arith, r .1), r .0)
 
 -- src/open.rt:41:34
@@ -50,62 +49,49 @@ enum-told-3 : tie.Need-enum-told-3
 enum-told-3 c = search needs
 
 -- src/open.rt:46:21
-enum-known-gone-2 : tie.Need-enum-known-gone-2
-enum-known-gone-2 c = search needs
-
--- src/open.rt:47:19
-enum-known-gone-3 : tie.Need-enum-known-gone-3
-enum-known-gone-3 c = search needs
+enum-known-step-2 : tie.Need-enum-known-step-2
+enum-known-step-2 c = search needs
 
 -- src/open.rt:32:1
 returns : tie.Need-returns
 unfolding endAnswer
 returns c =
     let a = c .before .before .before .before .before .before .before .before .args in
-    answered (a .s) (unpack (a .file .now)) (a .gone) _ (c .before .before .end-of .result) _ (c .before .before .before .before .gone .given .1) (c .before .before .end-of .ensures) (c .enum-told .given .1)
+    answered (a .s) (unpack (a .file .now)) (a .step) _ (c .before .before .end-of .result) _ (c .before .before .before .before .step .given .1) (c .before .before .end-of .ensures) (c .enum-told .given .1)
 
 -- src/open.rt:32:1
 returns-2 : tie.Need-returns-2
 unfolding endAnswer
 returns-2 c =
     let a = c .before .before .before .before .before .before .before .before .args in
-    ap (λ (n : ℕ). opening.Refused (BodyEnds n)) (c .before .before .before .before .before .before .sample-count .ensures) ∙ answered (a .s) (unpack (a .file .now)) (a .gone) _ (c .before .before .end-of .result) _ (c .before .before .before .before .gone .given .1) (c .before .before .end-of .ensures) (c .enum-told2 .given .1)
+    ap (λ (n : ℕ). opening.Refused (BodyEnds n)) (c .before .before .before .before .before .before .sample-count .ensures) ∙ answered (a .s) (unpack (a .file .now)) (a .step) _ (c .before .before .end-of .result) _ (c .before .before .before .before .step .given .1) (c .before .before .end-of .ensures) (c .enum-told2 .given .1)
 
 -- src/open.rt:32:1
 returns-3 : tie.Need-returns-3
 unfolding endAnswer
 returns-3 c =
     let a = c .before .before .before .before .before .before .before .before .args in
-    ap (λ (n : ℕ). opening.Refused (AfterEnd n)) (c .before .before .before .before .before .before .sample-count .ensures) ∙ answered (a .s) (unpack (a .file .now)) (a .gone) _ (c .before .before .end-of .result) _ (c .before .before .before .before .gone .given .1) (c .before .before .end-of .ensures) (c .enum-told3 .given .1)
+    ap (λ (n : ℕ). opening.Refused (AfterEnd n)) (c .before .before .before .before .before .before .sample-count .ensures) ∙ answered (a .s) (unpack (a .file .now)) (a .step) _ (c .before .before .end-of .result) _ (c .before .before .before .before .step .given .1) (c .before .before .end-of .ensures) (c .enum-told3 .given .1)
 
 -- src/open.rt:32:1
 returns-4 : tie.Need-returns-4
 unfolding answerOf
 returns-4 c =
     let a = c .before .before .before .before .before .args in
-    sym (ap (answerOf (a .s) (unpack (a .file .now))) (c .before .gone2 .given .1))
-
--- src/open.rt:32:1
-returns-5 : tie.Need-returns-5
-unfolding answerOf
-returns-5 c =
-    let a = c .before .before .before .before .before .args in
-    sym (ap (answerOf (a .s) (unpack (a .file .now))) (c .before .gone3 .given .1))
+    sym (ap (answerOf (a .s) (unpack (a .file .now))) (c .before .step2 .given .1))
 
 pub answer-of-spec : {M : Type 1} → statement M
 answer-of-spec =
     tie.close
     (tie.spec
     sample-count-requires
-    enum-known-gone
+    enum-known-step
     end-of-requires
     enum-told
     enum-told-2
     enum-told-3
-    enum-known-gone-2
-    enum-known-gone-3
+    enum-known-step-2
     returns
     returns-2
     returns-3
-    returns-4
-    returns-5)
+    returns-4)

@@ -11,8 +11,8 @@ use Rattle.cube.proofs.open.open_body.Statement.{statement}
 use Rattle.cube.proofs.open.open_body.Tie as tie
 use Rattle.cube.proofs.open.open_body.Reads as reads
 use Rattle.cube.proofs.open.open_body.Lts as lts
-use Rattle.body.proofs.plan.plan_of.Reads as plan-of-reads
-use Rattle.body_reader.proofs.walk.read_body.Reads as read-body-reads
+use Rattle.body_value.proofs.plan.plan_of.Reads as plan-of-reads
+use Rattle.body_walk.proofs.whole.read_body.Reads as read-body-reads
 use Rattle.closing.proofs.clear.clear_slots.Reads as clear-slots-reads
 use Rattle.cube.proofs.open.answer_of.Reads as answer-of-reads
 use Rattle.cube.proofs.open.is_refused.Reads as is-refused-reads
@@ -107,7 +107,7 @@ answer-of-requires c κs =
     let t = c .before .before .before .before .before .before .before .before .before .before .before .store-tables in
     let z = c .before .before .before .before .before .before .before .before .clear-slots in
     let b = c .before .before .read-body in
-    let o = begun-outcome (a .file .now) (a .scratch .now) (a .tables .now) (a .image .now) (a .s) (a .at) L (t .last .1 .1 .0) (z .last .0) (n .result) (t .ensures .stored (L .begins .header) _ (L .begins .read)) (n .ensures) (z .ensures) _ (b .result) (b .ensures) in
+    let o = begun-outcome (a .file .now) (a .scratch .now) (a .tables .now) (a .image .now) (a .s) (a .at) L (t .last .1 .1 .0) (z .last .0) (n .result) (t .ensures .stored (L .begins .header) _ (L .begins .read)) (n .ensures) (z .ensures) _ (c .before .before .before .before .before .before .plan-of .ensures) _ (b .result) (b .ensures) in
     (begun-legal (a .file .now) (a .scratch .now) (a .tables .now) (a .image .now) (a .s) (a .at) (L .begins), begun-limited (a .file .now) (a .scratch .now) (a .tables .now) (a .image .now) (a .s) (a .at) (L .begins), o .reached)
 
 -- src/open.rt:88:8
@@ -144,10 +144,10 @@ returns c =
     let z = c .before .before .before .before .before .before .before .before .before .before .before .before .before .before .before .before .before .clear-slots in
     let b = c .before .before .before .before .before .before .before .before .before .before .before .read-body in
     let r = c .before .before .before .before .before .before .before .before .answer-of in
-    let o = begun-outcome (a .file .now) (a .scratch .now) (a .tables .now) (a .image .now) (a .s) (a .at) L (t .last .1 .1 .0) (z .last .0) (n .result) (t .ensures .stored (L .begins .header) _ (L .begins .read)) (n .ensures) (z .ensures) _ (b .result) (b .ensures) in
+    let o = begun-outcome (a .file .now) (a .scratch .now) (a .tables .now) (a .image .now) (a .s) (a .at) L (t .last .1 .1 .0) (z .last .0) (n .result) (t .ensures .stored (L .begins .header) _ (L .begins .read)) (n .ensures) (z .ensures) _ (c .before .before .before .before .before .before .before .before .before .before .before .before .before .before .before .plan-of .ensures) _ (b .result) (b .ensures) in
     let l : length (t .last .1 .1 .0) ≡ length (a .tables .now) = search needs in
     opens-refused (a .file .now) (a .scratch .now) (a .tables .now) (a .image .now) (a .s) (a .at) L _ _ _ _ (b .result) _ o (r .ensures) (sym (ap isRefused (r .ensures)) ∙ sym (c .before .before .before .before .before .before .before .is-refused .ensures) ∙ c .before .before .before .before .before .before .if1 .taken) (c .before .before .before .before .clear-slots2 .ensures ∙ ap (λ (j : ℕ). replicate j (pos 0)) l)
-    (c .before .clear-slots3 .ensures ∙ ap (λ (j : ℕ). replicate j (pos 0)) (image-long (a .file .now) (a .scratch .now) (a .tables .now) (a .image .now) (a .s) (a .at) L (t .last .1 .1 .0) (z .last .0) (n .result) (t .ensures .stored (L .begins .header) _ (L .begins .read)) (n .ensures) (z .ensures) (b .last .1 .1 .1 .1 .1 .1 .0) (b .kept .1 .1 .1 .1 .1 .1 .0)))
+    (c .before .clear-slots3 .ensures ∙ ap (λ (j : ℕ). replicate j (pos 0)) (image-long (a .file .now) (a .scratch .now) (a .tables .now) (a .image .now) (a .s) (a .at) L (t .last .1 .1 .0) (z .last .0) (n .result) (t .ensures .stored (L .begins .header) _ (L .begins .read)) (n .ensures) (z .ensures) (b .last .1 .1 .1 .1 .1 .0) (b .kept .1 .1 .1 .1 .1 .0)))
 
 -- src/open.rt:62:1
 same-length-4 : tie.Need-same-length-4
@@ -171,8 +171,8 @@ returns-2 c =
     let z = c .before .before .before .before .before .before .before .before .before .before .before .clear-slots in
     let b = c .before .before .before .before .before .read-body in
     let r = c .before .before .answer-of in
-    let o = begun-outcome (a .file .now) (a .scratch .now) (a .tables .now) (a .image .now) (a .s) (a .at) L (t .last .1 .1 .0) (z .last .0) (n .result) (t .ensures .stored (L .begins .header) _ (L .begins .read)) (n .ensures) (z .ensures) _ (b .result) (b .ensures) in
-    opens-done (a .file .now) (a .scratch .now) (a .tables .now) (a .image .now) (a .s) (a .at) L (t .last .1 .1 .0) (z .last .0) (n .result) (t .ensures .stored (L .begins .header) _ (L .begins .read)) (n .ensures) (z .ensures) _ (b .result) _ o (b .kept .1 .1 .1 .1 .1 .1 .0 ∙ sym (front-long (a .file .now) (a .scratch .now) (a .tables .now) (a .image .now) (a .s) (a .at) L (t .last .1 .1 .0) (z .last .0) (n .result) (t .ensures .stored (L .begins .header) _ (L .begins .read)) (n .ensures) (z .ensures))) (r .ensures) (sym (ap isRefused (r .ensures)) ∙ sym (c .before .is-refused .ensures) ∙ c .if1 .left)
+    let o = begun-outcome (a .file .now) (a .scratch .now) (a .tables .now) (a .image .now) (a .s) (a .at) L (t .last .1 .1 .0) (z .last .0) (n .result) (t .ensures .stored (L .begins .header) _ (L .begins .read)) (n .ensures) (z .ensures) _ (c .before .before .before .before .before .before .before .before .before .plan-of .ensures) _ (b .result) (b .ensures) in
+    opens-done (a .file .now) (a .scratch .now) (a .tables .now) (a .image .now) (a .s) (a .at) L (t .last .1 .1 .0) (z .last .0) (n .result) (t .ensures .stored (L .begins .header) _ (L .begins .read)) (n .ensures) (z .ensures) _ (b .result) _ o (b .kept .1 .1 .1 .1 .1 .0 ∙ sym (front-long (a .file .now) (a .scratch .now) (a .tables .now) (a .image .now) (a .s) (a .at) L (t .last .1 .1 .0) (z .last .0) (n .result) (t .ensures .stored (L .begins .header) _ (L .begins .read)) (n .ensures) (z .ensures))) (r .ensures) (sym (ap isRefused (r .ensures)) ∙ sym (c .before .is-refused .ensures) ∙ c .if1 .left)
 
 pub open-body-spec : {M : Type 1} → statement M
 open-body-spec =
