@@ -1,6 +1,5 @@
 // The calls themselves, each with the line that it writes. The areas have just the lengths that the call is to see.
 // Scratch is never prepared: a call finds there what the one before it left, which must not change an answer.
-use super::calls::Looked;
 use super::calls::Opened;
 use super::calls::Packed;
 use super::calls::length;
@@ -54,8 +53,8 @@ fn run_open(file: &[u8], scratch: &mut [i32], tables: &mut [i32], image: &mut [i
 // The settings alone are hashed.
 fn run_look(file: &[u8]) {
     match look(file) {
-        Looked::Settings(s) => line(b"look", 0, 0, hash::settings(0, s)),
-        Looked::Refused(r) => refused(b"look", r, 0),
+        Opened::Settings(s) => line(b"look", 0, 0, hash::settings(0, s)),
+        Opened::Refused(r) => refused(b"look", r, 0),
     }
 }
 

@@ -7,8 +7,6 @@ use Rattle.cube.specs.declared.Packed.{Packed}
 use Rattle.cube.specs.declared.Packed.the-variants as packing
 use Rattle.cube.specs.declared.Opened.{Opened}
 use Rattle.cube.specs.declared.Opened.the-variants as opening
-use Rattle.cube.specs.declared.look.Looked.{Looked}
-use Rattle.cube.specs.declared.look.Looked.the-variants as looking
 
 -- the number that pack and length answer
 unfoldable pub packedNumber : Packed → ℕ
@@ -20,22 +18,17 @@ unfoldable pub packedValue : Packed → ℕ
 packedValue (packing.Length n) = n
 packedValue (packing.Refused w) = value w
 
--- the number that open answers
+-- the number that open and look answer
 unfoldable pub openedNumber : Opened → ℕ
 openedNumber (opening.Settings S) = 0
 openedNumber (opening.Refused w) = number w
 
--- and the value, beside the settings: Nx·Ny·Nz
+-- and the value of open, beside the settings: Nx·Ny·Nz
 unfoldable pub openedValue : Opened → ℕ
 openedValue (opening.Settings S) = sampleCount (S .image)
 openedValue (opening.Refused w) = value w
 
--- the number that look answers
-unfoldable pub lookedNumber : Looked → ℕ
-lookedNumber (looking.Settings S) = 0
-lookedNumber (looking.Refused w) = number w
-
--- and the value: nothing beside the settings
-unfoldable pub lookedValue : Looked → ℕ
-lookedValue (looking.Settings S) = 0
-lookedValue (looking.Refused w) = value w
+-- and the value of look: nothing beside the settings
+unfoldable pub lookedValue : Opened → ℕ
+lookedValue (opening.Settings S) = 0
+lookedValue (opening.Refused w) = value w

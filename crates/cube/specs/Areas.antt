@@ -13,11 +13,10 @@ use Rattle.cube.specs.declared.Packed.{Packed}
 use Rattle.cube.specs.declared.Packed.the-variants as packing
 use Rattle.cube.specs.declared.Opened.{Opened}
 use Rattle.cube.specs.declared.Opened.the-variants as opening
-use Rattle.cube.specs.declared.look.Looked.{Looked}
 use Rattle.cube.specs.File.{file, lengthAnswer, packed}
 use Rattle.cube.specs.Open.{Cube, Lent, opened}
 use Rattle.cube.specs.Look.{looked}
-use Rattle.cube.specs.Answers.{packedNumber, packedValue, openedNumber, openedValue, lookedNumber, lookedValue}
+use Rattle.cube.specs.Answers.{packedNumber, packedValue, openedNumber, openedValue, lookedValue}
 
 -- an area that held l: what is done from its start on, and the rest as it was
 abbrev pub filledFrom : {A : Type 0} → List A → List A → List A
@@ -79,7 +78,7 @@ pub record Opens (bytes : List ℕ) (scratch tables image : List ℤ) (r : Opene
   pub image-area : image′ ≡ imageAfter (opened (lentOf scratch tables image) bytes) image
 
 -- look: what it answers
-pub record Looks (bytes : List ℕ) (r : Looked) : Type 0 where
+pub record Looks (bytes : List ℕ) (r : Opened) : Type 0 where
   pub answer : r ≡ looked bytes
-  pub number-is : lookedNumber r ≡ lookedNumber (looked bytes)
+  pub number-is : openedNumber r ≡ openedNumber (looked bytes)
   pub value-is : lookedValue r ≡ lookedValue (looked bytes)

@@ -26,8 +26,6 @@ use Rattle.cube.specs.declared.Packed.{Packed}
 use Rattle.cube.specs.declared.Packed.the-variants as packing
 use Rattle.cube.specs.declared.Opened.{Opened}
 use Rattle.cube.specs.declared.Opened.the-variants as opening
-use Rattle.cube.specs.declared.look.Looked.{Looked}
-use Rattle.cube.specs.declared.look.Looked.the-variants as looking
 use Rattle.cube.specs.File.{file, packed}
 use Rattle.cube.specs.Open.{Cube, Lent, opened}
 use Rattle.cube.specs.Areas.{filledFrom, afterRefusal, outAfter, openAnswer, imageAfter, tablesAfter, lentOf, Packs, Lengths, Opens, Looks}
@@ -54,7 +52,7 @@ pub opens-one-way : {bytes : List ℕ} {scratch tables image : List ℤ} {r r′
     → Opens bytes scratch tables image r t i → Opens bytes scratch tables image r′ t′ i′ → (r ≡ r′) × (t ≡ t′) × (i ≡ i′)
 opens-one-way p q = (p .answer ∙ sym (q .answer), p .table-area ∙ sym (q .table-area), p .image-area ∙ sym (q .image-area))
 
-pub look-one-way : {bytes : List ℕ} {r r′ : Looked} → Looks bytes r → Looks bytes r′ → r ≡ r′
+pub look-one-way : {bytes : List ℕ} {r r′ : Opened} → Looks bytes r → Looks bytes r′ → r ≡ r′
 look-one-way p q = p .answer ∙ sym (q .answer)
 
 -- "The list of refusals is closed": eighteen refusals, and those that clear are 6, 9, 10 and 11
@@ -74,7 +72,7 @@ pub open-closed : {bytes : List ℕ} {scratch tables image : List ℤ} {r : Open
     → Opens bytes scratch tables image r t i → r ≡ opening.Refused w → among openRefuses (number w) ≡ true
 open-closed {bytes} {scratch} {tables} {image} w p e = opened-listed (lentOf scratch tables image) bytes w (answer-refused _ w (sym (p .answer) ∙ e))
 
-pub look-closed : {bytes : List ℕ} {r : Looked} (w : Refusal) → Looks bytes r → r ≡ looking.Refused w → among lookRefuses (number w) ≡ true
+pub look-closed : {bytes : List ℕ} {r : Opened} (w : Refusal) → Looks bytes r → r ≡ opening.Refused w → among lookRefuses (number w) ≡ true
 look-closed {bytes} w p e = header-listed _ w (looked-refused bytes w (sym (p .answer) ∙ e))
 
 -- "After a refusal no half image and no half file is left": each area is zero or as it was
@@ -155,17 +153,17 @@ opens-packed {S} {tables} {samples} {scratch} {out} {o} {n} p m q =
     opens-allowed q S tables samples (fine-allowed S tables samples (length scratch) (k .0)) m (sym (ap (take n) s ∙ take-at (file S tables samples) _ n (sym (k .1))))
 
 -- the look shows the settings of a file that was packed, those that open answers, and refuses as open does
-pub look-packed : (S : Settings) (tables samples : List ℤ) {r : Looked} → Allowed S tables samples → Looks (file S tables samples) r → r ≡ looking.Settings (usedSettings S)
+pub look-packed : (S : Settings) (tables samples : List ℤ) {r : Opened} → Allowed S tables samples → Looks (file S tables samples) r → r ≡ opening.Settings (usedSettings S)
 look-packed S tables samples a p =
     let lent : Lent = record { scratch = scratchStride * S .image .nz; tables = stride * S .image .nz; image = sampleCount (S .image) } in
     let m : Enough S lent = record { image = omega arith; areas = record { scratch-holds = omega arith; tables-hold = omega arith } } in
     p .answer ∙ looked-opened lent (file S tables samples) _ _ (opened-file S tables samples lent (a .legal) (a .within) (a .entries) (a .good) m)
 
-pub look-opened : {bytes : List ℕ} {scratch area image : List ℤ} {r : Opened} {t i : List ℤ} {s : Looked} → Looks bytes s → Opens bytes scratch area image r t i
-    → ((S : Settings) → r ≡ opening.Settings S → s ≡ looking.Settings S) × ((w : Refusal) → s ≡ looking.Refused w → r ≡ opening.Refused w)
+pub look-opened : {bytes : List ℕ} {scratch area image : List ℤ} {r : Opened} {t i : List ℤ} {s : Opened} → Looks bytes s → Opens bytes scratch area image r t i
+    → ((S : Settings) → r ≡ opening.Settings S → s ≡ opening.Settings S) × ((w : Refusal) → s ≡ opening.Refused w → r ≡ opening.Refused w)
 unfolding openAnswer
 look-opened {bytes} {scratch} {area} {image} l p = (
-  λ S q. let a = answer-settings _ S (sym (p .answer) ∙ q) in l .answer ∙ looked-opened (lentOf scratch area image) bytes (a .0) (a .1) (a .2) ∙ ap looking.Settings (a .3),
+  λ S q. let a = answer-settings _ S (sym (p .answer) ∙ q) in l .answer ∙ looked-opened (lentOf scratch area image) bytes (a .0) (a .1) (a .2) ∙ ap opening.Settings (a .3),
   λ w q. p .answer ∙ ap openAnswer (header-refused (lentOf scratch area image) bytes w (looked-refused bytes w (sym (l .answer) ∙ q))),
 )
 

@@ -2,11 +2,16 @@
 use mathlib.Core.List.{List}
 use Prim.Native.Nat.{ℕ}
 use Rattle.bitstream.specs.Stream.{unpack}
+use Rattle.refusals.specs.Reading.{Read, got, refused}
 use Rattle.header.specs.Read.{Header, readHeader}
-use Rattle.header_reader.specs.Answers.{answered}
-use Rattle.cube.specs.declared.look.Looked.{Looked}
-use Rattle.cube.specs.declared.look.Looked.the-variants as answer
+use Rattle.cube.specs.declared.Opened.{Opened}
+use Rattle.cube.specs.declared.Opened.the-variants as opening
+
+-- the answer to a header that is read
+unfoldable pub lookAnswer : Read Header → Opened
+lookAnswer (got h r) = opening.Settings (h .settings)
+lookAnswer (refused w) = opening.Refused w
 
 -- the settings, or the refusal of the header
-unfoldable pub looked : List ℕ → Looked
-looked bytes = answered (λ h. answer.Settings (h .settings)) answer.Refused (readHeader (unpack bytes))
+unfoldable pub looked : List ℕ → Opened
+looked bytes = lookAnswer (readHeader (unpack bytes))

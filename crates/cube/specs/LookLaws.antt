@@ -15,29 +15,26 @@ use Rattle.refusals.specs.ReadingLaws.{passed, no-test, sequenced}
 use Rattle.body.specs.Order.{order}
 use Rattle.body.specs.Body.{readBody}
 use Rattle.header.specs.Read.{Header, readHeader}
-use Rattle.header_reader.specs.Answers.{answered, Begins}
-use Rattle.cube.specs.declared.look.Looked.{Looked}
-use Rattle.cube.specs.declared.look.Looked.the-variants as answer
-use Rattle.cube.specs.Look.{looked}
-use Rattle.cube.specs.Answers.{lookedNumber, lookedValue}
+use Rattle.header_reader.specs.Answers.{Begins}
+use Rattle.cube.specs.declared.Opened.{Opened}
+use Rattle.cube.specs.declared.Opened.the-variants as opening
+use Rattle.cube.specs.Look.{lookAnswer, looked}
+use Rattle.cube.specs.Answers.{openedNumber, lookedValue}
 use Rattle.cube.specs.Areas.{Looks}
 use Rattle.cube.specs.Open.{Cube, Lent, atEnd, behindHeader, openedBits, opened}
 
-abbrev shown : Read Header → Looked
-shown = answered (λ h. answer.Settings (h .settings)) answer.Refused
-
 -- the answer makes the statement: number and value are the answer's
-looks-as : (bytes : List ℕ) {r : Looked} → r ≡ looked bytes → Looks bytes r
-looks-as bytes e = record { answer = e; number-is = ap lookedNumber e; value-is = ap lookedValue e }
+looks-as : (bytes : List ℕ) {r : Opened} → r ≡ looked bytes → Looks bytes r
+looks-as bytes e = record { answer = e; number-is = ap openedNumber e; value-is = ap lookedValue e }
 
 -- a file that begins with a header of some settings shows these
-pub look-settings : (bytes : List ℕ) (S : Settings) (at : ℕ) → Begins (unpack bytes) S at → Looks bytes (answer.Settings S)
-unfolding looked
-look-settings bytes S at b = looks-as bytes (sym (ap shown (b .read) ∙ ap answer.Settings (b .settings)))
+pub look-settings : (bytes : List ℕ) (S : Settings) (at : ℕ) → Begins (unpack bytes) S at → Looks bytes (opening.Settings S)
+unfolding looked lookAnswer
+look-settings bytes S at b = looks-as bytes (sym (ap lookAnswer (b .read) ∙ ap opening.Settings (b .settings)))
 
-pub look-refused : (bytes : List ℕ) (why : Refusal) → readHeader (unpack bytes) ≡ refused why → Looks bytes (answer.Refused why)
-unfolding looked
-look-refused bytes why e = looks-as bytes (sym (ap shown e))
+pub look-refused : (bytes : List ℕ) (why : Refusal) → readHeader (unpack bytes) ≡ refused why → Looks bytes (opening.Refused why)
+unfolding looked lookAnswer
+look-refused bytes why e = looks-as bytes (sym (ap lookAnswer e))
 
 -- ---- the look and opening
 
@@ -77,9 +74,9 @@ opened-headed lent bytes c r e =
     record { header = s .value; behind = s .behind; read = s .first; settings = behind-settings lent _ (s .value) (s .behind) c r (s .then) }
 
 -- so the look shows what opening answers
-pub looked-opened : (lent : Lent) (bytes : List ℕ) (c : Cube) (r : List Bool) → opened lent bytes ≡ got c r → looked bytes ≡ answer.Settings (c .settings)
-unfolding looked
-looked-opened lent bytes c r e = let h = opened-headed lent bytes c r e in ap shown (h .read) ∙ ap answer.Settings (h .settings)
+pub looked-opened : (lent : Lent) (bytes : List ℕ) (c : Cube) (r : List Bool) → opened lent bytes ≡ got c r → looked bytes ≡ opening.Settings (c .settings)
+unfolding looked lookAnswer
+looked-opened lent bytes c r e = let h = opened-headed lent bytes c r e in ap lookAnswer (h .read) ∙ ap opening.Settings (h .settings)
 
 -- a header's refusal is also the file's
 pub header-refused : (lent : Lent) (bytes : List ℕ) (w : Refusal) → readHeader (unpack bytes) ≡ refused w → opened lent bytes ≡ refused w
@@ -87,10 +84,10 @@ unfolding opened openedBits
 header-refused lent bytes w e = rw e
 
 -- what the look refuses, the header's reader does
-pub looked-refused : (bytes : List ℕ) (w : Refusal) → looked bytes ≡ answer.Refused w → readHeader (unpack bytes) ≡ refused w
-unfolding looked
+pub looked-refused : (bytes : List ℕ) (w : Refusal) → looked bytes ≡ opening.Refused w → readHeader (unpack bytes) ≡ refused w
+unfolding looked lookAnswer
 looked-refused bytes w = go (readHeader (unpack bytes))
   where
-    go : (x : Read Header) → shown x ≡ answer.Refused w → x ≡ refused w
+    go : (x : Read Header) → lookAnswer x ≡ opening.Refused w → x ≡ refused w
     go (got h r) e = let z : _≡_ {A = ℕ} 0 1 = cc in absurd (omega arith)
     go (refused v) e = cc

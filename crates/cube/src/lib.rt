@@ -12,7 +12,7 @@ pub enum Packed {
     Refused(Refusal),
 }
 
-// What open answers: the settings, or a refusal.
+// What open and look answer: the settings, or a refusal.
 pub enum Opened {
     Settings(Settings),
     Refused(Refusal),

@@ -7,22 +7,21 @@ use native.Mathlib.Omega.{arith}
 use lib.IntN.{ℤ}
 use lib.ListN.{length}
 use lib.Dec.{ltb}
-use Rattle.bitstream.specs.Stream.{unpack}
 use Rattle.refusals.specs.declared.Refusal.{Refusal}
 use Rattle.refusals.specs.declared.Refusal.the-variants.{IllegalSetting, WrongCount}
 use Rattle.refusals.specs.declared.Checked.the-variants as checking
 use Rattle.refusals.specs.Refusals.{value, clears}
 use Rattle.refusals.specs.Tests.{firstHit}
 use Rattle.settings.specs.declared.Settings.{Settings}
-use Rattle.header.specs.Read.{readHeader}
 use Rattle.cube.specs.declared.Packed.{Packed}
 use Rattle.cube.specs.declared.Opened.{Opened}
 use Rattle.cube.specs.File.{lengthAnswer}
-use Rattle.cube.specs.Answers.{packedNumber, packedValue, openedNumber, openedValue}
+use Rattle.cube.specs.Look.{looked}
+use Rattle.cube.specs.Answers.{packedNumber, packedValue, openedNumber, openedValue, lookedValue}
 use Rattle.cube.specs.Areas.{outAfter, openAnswer, imageAfter, tablesAfter, lentOf, Packs, Lengths, Opens}
 use Rattle.settings_slots.specs.Slots.{slotCount, holds, settingsFrom, slotsChecked}
-use Rattle.cube_c.specs.Answer.{valueLimit, refusalWord, packedWord, openedWord, lookedValue, lookedWord}
-use Rattle.cube_c.specs.Boundary.{boundaryLength, boundaryPacked, lookAnswer, slotsAfter, CPacks, CLengths, COpens, CLooks}
+use Rattle.cube_c.specs.Answer.{valueLimit, refusalWord, packedWord, openedWord, lookedWord}
+use Rattle.cube_c.specs.Boundary.{boundaryLength, boundaryPacked, slotsAfter, CPacks, CLengths, COpens, CLooks}
 use Rattle.cube_c.specs.BoundaryLaws.{slots-small, length-small, packed-small, opened-short, opened-long, looked-short, looked-long, Fit, opened-fits, looked-fits}
 
 -- ---- pack and length
@@ -83,10 +82,10 @@ opens-long bytes scratch tables image slots h k q m =
     }
 
 pub looks-short : (bytes : List ℕ) (slots : List ℤ) {r : ℕ} → length slots < slotCount → r ≡ refusalWord WrongCount → CLooks bytes slots r slots
-unfolding lookedWord slotsAfter
+unfolding lookedWord openedNumber lookedValue slotsAfter
 looks-short bytes slots h q = let e = looked-short slots bytes h in record { answer = rw e q; settings-area = rw e }
 
-pub looks-long : (bytes : List ℕ) (slots : List ℤ) {p : Opened} {r : ℕ} {s : List ℤ} → slotCount ≤ length slots → p ≡ lookAnswer (readHeader (unpack bytes))
+pub looks-long : (bytes : List ℕ) (slots : List ℤ) {p : Opened} {r : ℕ} {s : List ℤ} → slotCount ≤ length slots → p ≡ looked bytes
     → r ≡ lookedWord p → s ≡ slotsAfter p slots → CLooks bytes slots r s
 looks-long bytes slots h k q m =
     let e = k ∙ sym (looked-long slots bytes h) in
@@ -106,5 +105,5 @@ lengths-small S tables samples scratch k = let m = length-small S tables samples
 pub opens-fit : (bytes : List ℕ) (scratch tables image : List ℤ) {p : Opened} {t i : List ℤ} → Opens bytes scratch tables image p t i → Fit openedValue p
 opens-fit bytes scratch tables image k = rw (k .answer) (opened-fits (lentOf scratch tables image) bytes)
 
-pub looks-fit : (bytes : List ℕ) {p : Opened} → p ≡ lookAnswer (readHeader (unpack bytes)) → Fit lookedValue p
+pub looks-fit : (bytes : List ℕ) {p : Opened} → p ≡ looked bytes → Fit lookedValue p
 looks-fit bytes k = rw k (looked-fits bytes)

@@ -8,15 +8,16 @@ use Rattle.bitstream.specs.Stream.{unpack}
 use Rattle.refusals.specs.declared.Checked.{Checked}
 use Rattle.refusals.specs.declared.Checked.the-variants as checking
 use Rattle.refusals.specs.Tests.{firstHit}
-use Rattle.refusals.specs.Reading.{Read, got, refused, unless}
+use Rattle.refusals.specs.Reading.{Read, unless}
 use Rattle.settings.specs.declared.Settings.{Settings}
-use Rattle.header.specs.Read.{Header, readHeader}
+use Rattle.header.specs.Read.{readHeader}
 use Rattle.cube.specs.declared.Packed.{Packed}
 use Rattle.cube.specs.declared.Packed.the-variants as packing
 use Rattle.cube.specs.declared.Opened.{Opened}
 use Rattle.cube.specs.declared.Opened.the-variants as opening
 use Rattle.cube.specs.File.{lengthAnswer, packed}
 use Rattle.cube.specs.Open.{Cube, Lent, opened}
+use Rattle.cube.specs.Look.{lookAnswer}
 use Rattle.cube.specs.Areas.{outAfter, openAnswer, imageAfter, tablesAfter, lentOf}
 use Rattle.settings_slots.specs.Slots.{slotCount, settingsFrom, slotsOf, tooShort, slotsChecked}
 use Rattle.settings_slots.specs.Storing.{Small}
@@ -44,11 +45,6 @@ boundaryPacked slots tables samples scratch room =
 -- what opening reads
 unfoldable pub boundaryOpened : List ℤ → Lent → List ℕ → Read Cube
 boundaryOpened slots lent bytes = unless (firstHit (tooShort slots ∷ [])) (opened lent bytes)
-
--- the answer to a header that is read
-unfoldable pub lookAnswer : Read Header → Opened
-lookAnswer (got h r) = opening.Settings (h .settings)
-lookAnswer (refused w) = opening.Refused w
 
 -- what the look answers
 unfoldable pub boundaryLooked : List ℤ → List ℕ → Opened

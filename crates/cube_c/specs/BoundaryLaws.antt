@@ -26,9 +26,7 @@ use Rattle.settings.specs.Range.{firstOut}
 use Rattle.settings.specs.Checks.{checkPack}
 use Rattle.settings.specs.CheckLaws.{fine}
 use Rattle.header.specs.Read.{Header, readHeader}
-use Rattle.header_reader.specs.Answers.{answered}
 use Rattle.header.specs.Write.{usedSettings}
-use Rattle.cube.specs.declared.look.Looked.the-variants as looking
 use Rattle.header.specs.HeaderLaws.{read-header}
 use Rattle.cube.specs.declared.Packed.{Packed}
 use Rattle.cube.specs.declared.Packed.the-variants as packing
@@ -36,16 +34,16 @@ use Rattle.cube.specs.declared.Opened.{Opened}
 use Rattle.cube.specs.declared.Opened.the-variants as opening
 use Rattle.cube.specs.File.{lengthAnswer, packed}
 use Rattle.cube.specs.Open.{Cube, Lent, opened}
-use Rattle.cube.specs.Answers.{packedValue, openedValue}
+use Rattle.cube.specs.Answers.{packedValue, openedValue, lookedValue}
 use Rattle.cube.specs.Areas.{openAnswer}
 use Rattle.cube.specs.SizeLaws.{samples-few, file-most}
-use Rattle.cube.specs.Look.{looked}
+use Rattle.cube.specs.Look.{lookAnswer, looked}
 use Rattle.cube.specs.LookLaws.{opened-headed, header-refused}
 use Rattle.cube.specs.ValueLaws.{Refuses, Most, opened-within}
 use Rattle.settings_slots.specs.Slots.{slotCount, holds, settingsFrom, slotsChecked}
-use Rattle.cube_c.specs.Answer.{valueLimit, lookedValue, openedOf}
+use Rattle.cube_c.specs.Answer.{valueLimit}
 use Rattle.cube_c.specs.UsedLaws.{small}
-use Rattle.cube_c.specs.Boundary.{answeredUnless, boundaryLength, boundaryPacked, boundaryOpened, lookAnswer, boundaryLooked, Storable, CPacks, CLengths, COpens, CLooks}
+use Rattle.cube_c.specs.Boundary.{answeredUnless, boundaryLength, boundaryPacked, boundaryOpened, boundaryLooked, Storable, CPacks, CLengths, COpens, CLooks}
 
 -- ---- one answer, and one content of each area
 
@@ -194,8 +192,8 @@ pub looked-short : (slots : List ℤ) (bytes : List ℕ) → length slots < slot
 unfolding boundaryLooked firstHit lookAnswer
 looked-short slots bytes h = rw (lt-ltb (length slots) slotCount h)
 
-pub looked-long : (slots : List ℤ) (bytes : List ℕ) → slotCount ≤ length slots → boundaryLooked slots bytes ≡ lookAnswer (readHeader (unpack bytes))
-unfolding boundaryLooked firstHit
+pub looked-long : (slots : List ℤ) (bytes : List ℕ) → slotCount ≤ length slots → boundaryLooked slots bytes ≡ looked bytes
+unfolding boundaryLooked firstHit looked
 looked-long slots bytes h = rw (le-ltb (length slots) slotCount h)
 
 -- what a reader answers is small, and its settings fit the slots
@@ -213,21 +211,13 @@ open-fits (refused v) w g = record { value-small = let m = w .said v refl in ome
 pub opened-fits : (lent : Lent) (bytes : List ℕ) → Fit openedValue (openAnswer (opened lent bytes))
 opened-fits lent bytes = open-fits (opened lent bytes) (opened-within lent bytes) (opened-given lent bytes)
 
--- the look's answer, as an opening's
-pub looked-is : (bytes : List ℕ) → openedOf (looked bytes) ≡ lookAnswer (readHeader (unpack bytes))
-unfolding looked openedOf lookAnswer
-looked-is bytes = go (readHeader (unpack bytes))
-  where
-    go : (x : Read Header) → openedOf (answered (λ h. looking.Settings (h .settings)) looking.Refused x) ≡ lookAnswer x
-    go (got h r) = refl
-    go (refused w) = refl
-
 look-fits : (x : Read Header) → ((w : Refusal) → x ≡ refused w → value w ≤ mostSamples) → ((h : Header) (r : List Bool) → x ≡ got h r → Given (h .settings)) → Fit lookedValue (lookAnswer x)
 unfolding lookAnswer lookedValue Storable
 look-fits (got h r) w g = let k = g h r refl in record { value-small = omega arith; storable = small (h .settings) (k .legal) (k .named) }
 look-fits (refused v) w g = record { value-small = let m = w v refl in omega arith; storable = tt }
 
-pub looked-fits : (bytes : List ℕ) → Fit lookedValue (lookAnswer (readHeader (unpack bytes)))
+pub looked-fits : (bytes : List ℕ) → Fit lookedValue (looked bytes)
+unfolding looked
 looked-fits bytes =
     let lent : Lent = record { scratch = 0; tables = 0; image = 0 } in
     look-fits (readHeader (unpack bytes)) (λ w e. opened-within lent bytes .said w (header-refused lent bytes w e)) (λ h r. header-given (unpack bytes) r h)

@@ -1,7 +1,6 @@
 // Answers in one word: number · 2^56 + value, where number 0 is success. Settings that are answered go to the slots.
 use cube::Opened;
 use cube::Packed;
-use cube::look::Looked;
 use refusals::Refusal;
 use refusals::numbers::numbered;
 use settings::legal::sample_count;
@@ -11,8 +10,8 @@ ghost use Prim.Native.Nat.{_≤_, _<_, _^_};
 ghost use lib.ListN.{length};
 ghost use Rattle.refusals.specs.Refusals.{value};
 ghost use Rattle.settings_slots.specs.Slots.{slotCount};
-ghost use Rattle.cube.specs.Answers.{packedValue, openedValue};
-ghost use Rattle.cube_c.specs.Answer.{valueLimit, wordOf, refusalWord, packedWord, openedWord, lookedValue, lookedWord, openedOf};
+ghost use Rattle.cube.specs.Answers.{packedValue, openedValue, lookedValue};
+ghost use Rattle.cube_c.specs.Answer.{valueLimit, wordOf, refusalWord, packedWord, openedWord, lookedWord};
 ghost use Rattle.cube_c.specs.Boundary.{Storable, slotsAfter};
 
 // What the value of an answer is kept below, 2^56: the number stands above it.
@@ -55,16 +54,6 @@ pub fn opened_word(r: Opened) -> u64
     match r {
         Opened::Settings(s) => word(0, sample_count(s.image)),
         Opened::Refused(w) => refusal_word(w),
-    }
-}
-
-// What a look answers, as what an opening does.
-pub fn looked_answer(r: Looked) -> Opened
-    ensures { λ o. ⌜ o ≡ openedOf r ⌝ }
-{
-    match r {
-        Looked::Settings(s) => Opened::Settings(s),
-        Looked::Refused(w) => Opened::Refused(w),
     }
 }
 

@@ -1,5 +1,4 @@
 // The four calls for C, Rust and Python. No call requires anything: every list of slots, bytes and lengths has one answer.
-use super::answer::looked_answer;
 use super::answer::looked_word;
 use super::answer::opened_word;
 use super::answer::packed_word;
@@ -82,8 +81,7 @@ pub extern "C" fn remulingka_look(file: &[u8], settings: &mut [i32]) -> u64
     if settings.len() < SLOTS {
         return refusal_word(Refusal::WrongCount);
     }
-    let looked = look(file);
-    let answer = looked_answer(looked);
+    let answer = look(file);
     put_answer(answer, settings);
     looked_word(answer)
 }
