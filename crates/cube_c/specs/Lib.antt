@@ -3,3 +3,5 @@ pub mod UsedLaws
 pub mod Answer
 pub mod Boundary
 pub mod BoundaryLaws
+pub mod SlotLaws
+pub mod Demands
