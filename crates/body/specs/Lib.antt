@@ -1,5 +1,6 @@
 -- Section 5.4 of the standard: the encoding order and the body, both ways.
 pub mod Order
+pub mod ByHand
 pub mod OrderLaws
 pub mod Body
 pub mod BodyLaws
