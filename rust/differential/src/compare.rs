@@ -1,10 +1,8 @@
 //! One call answered twice, and all that it left behind compared.
 
+use plain::boundary::{self as reference, Call, Writer};
 use plain::make::Random;
 use remulingka::boundary;
-
-use crate::call::{Call, Writer};
-use crate::reference;
 
 /// Elements in front of and behind a lent area, which no call may touch.
 const MOST_GUARDS: usize = 9;

@@ -1,11 +1,11 @@
 //! Random calls. Ends of ranges come far more often than by chance.
 
+use plain::boundary::{Call, Writer};
 use plain::case::{self, WriterInputs};
 use plain::make::{self, Random};
 use plain::settings::{SCRATCH_STRIDE, SETTING_SLOTS, TABLE_STRIDE};
 use plain::Settings;
 
-use crate::call::{Call, Writer};
 use crate::images::random_image;
 
 /// One call in this many has an image of exactly the house's largest size.

@@ -4,12 +4,10 @@
 //! Each call is drawn from the seed and its own index alone, so that any one can
 //! be made again by itself.
 
-pub mod call;
 pub mod compare;
 pub mod images;
 pub mod inputs;
-pub mod reference;
 pub mod run;
 
-pub use call::{Call, Writer};
+pub use plain::boundary::{Call, Writer};
 pub use run::{run, run_and_tell, Options, Report};

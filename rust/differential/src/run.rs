@@ -3,9 +3,9 @@
 use std::process::ExitCode;
 use std::time::Instant;
 
+use plain::boundary::{number_of, KINDS, NUMBERS};
 use plain::make::Random;
 
-use crate::call::{KINDS, NUMBERS};
 use crate::compare::compare;
 use crate::inputs::random_call;
 
@@ -80,7 +80,7 @@ pub fn run(options: &Options) -> Report {
         let call = random_call(&mut random);
         let outcome = compare(&call, &mut random);
         report.calls += 1;
-        report.answers[call.kind()][(outcome.expected >> 56) as usize] += 1;
+        report.answers[call.kind()][number_of(outcome.expected) as usize] += 1;
         if !outcome.differences.is_empty() {
             let seconds = started.elapsed().as_secs_f64();
             report

@@ -3,14 +3,16 @@
 //!
 //! The modules follow the data's way: `settings` and `header` say what the file
 //! is, `predictor` turns samples into mapped values, `coder` turns mapped values
-//! into codewords, and `cube` joins them into the four public calls. `case` reads
-//! and answers recorded calls, `make` and `shapes` invent new ones, and `feed` and
-//! `unfeed` turn calls into inputs of the proved programs and back.
+//! into codewords, and `cube` joins them into the four public calls, which `boundary`
+//! has as C makes them. `case` reads and answers recorded calls, `make` and `shapes`
+//! invent new ones, and `feed` and `unfeed` turn calls into the input of the proved
+//! program and back.
 //!
 //! Nothing here is shared with the proved code. That is the point: two programs
 //! written apart from the same paper are compared by a run.
 
 pub mod bits;
+pub mod boundary;
 pub mod case;
 pub mod coder;
 pub mod cube;
