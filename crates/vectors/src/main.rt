@@ -1,4 +1,4 @@
-// The recorded and made calls of the independent program, on the proved code: `stdin` and `stdout` are written by tools/feeds.
+// The recorded and made calls of the independent program, through the C boundary: `stdin` and `stdout` are written by tools/feeds.
 fn main() {
-    harness::run::run();
+    replay::run::run();
 }

@@ -1,29 +1,82 @@
-//! Feeds: calls as the binary input of the proved programs, and the lines that
-//! these must write, computed here. README.md has the format.
+//! Feeds: calls at the C boundary as the binary input of the proved program, and the
+//! lines that it must write, computed here. README.md has the format.
 //!
-//! A line has a hash of everything a call gives and of every element of every
-//! lent output, not the elements themselves: `Hash` says why that is enough.
+//! A line has the answer and a hash of every element of every area that the call may
+//! write, not the elements themselves: `Hash` says why that is enough.
 
-use crate::case::{Call, WriterInputs, BYTE_BEFORE, SLOT_BEFORE};
-use crate::cube::{look, open, Answer};
-use crate::refusal::Refusal;
-use crate::settings::{Settings, SCRATCH_STRIDE, TABLE_STRIDE};
+use crate::boundary::{length, look, number_of, open, pack, value_of, Call};
+use crate::case::{BYTE_BEFORE, SLOT_BEFORE};
+use crate::settings::{Settings, SCRATCH_STRIDE, SETTING_SLOTS, TABLE_STRIDE};
 
-// What the programs have room for: crates/harness/src/run.rt has the same numbers.
-/// Table slots that the programs have room for: 64 bands and some.
-pub const MOST_TABLES: usize = 1_280;
-/// Samples to be packed that the programs have room for.
-pub const MOST_SAMPLES: usize = 4_096;
-/// Slots of an image area that the programs have room for.
-pub const MOST_IMAGE: usize = 786_432;
-/// Scratch slots that the programs have room for: 64 bands and some.
-pub const MOST_SCRATCH: usize = 2_112;
-/// Bytes of a file, or of an output, that the programs have room for.
-pub const MOST_BYTES: usize = 16_384;
+/// A slot area that a feed lends.
+#[derive(Clone, Copy, Debug, PartialEq, Eq)]
+pub struct Area {
+    /// The kind of its records.
+    pub kind: usize,
+    pub name: &'static str,
+    /// Slots that the program has room for.
+    pub most: usize,
+}
+
+const fn area(kind: usize, name: &'static str, most: usize) -> Area {
+    Area { kind, name, most }
+}
+
+/// The settings, with room for more slots than there are.
+pub const SETTINGS: Area = area(1, "SETTINGS", 64);
+/// The tables: 64 bands and some.
+pub const TABLES: Area = area(2, "TABLES", 1_280);
+/// The samples to be packed, or the area for an image: a recorded call lends one
+/// this large for a file of a few bytes.
+pub const IMAGE: Area = area(3, "IMAGE", 786_432);
+/// Scratch: 64 bands and some.
+pub const SCRATCH: Area = area(4, "SCRATCH", 2_112);
+/// All of them.
+pub const AREAS: [Area; 4] = [SETTINGS, TABLES, IMAGE, SCRATCH];
+
+/// The kind of the record that gives the bytes of a file.
+pub const BYTES: usize = 5;
+/// Bytes of an output, or of a file and what a change may add, that the program has
+/// room for.
+pub const MOST_BYTES: usize = 16_384 + PADDING;
 /// Zero bytes behind every file of a feed, so that a change can lengthen it.
 pub const PADDING: usize = 9;
-/// Bytes of a head: five words.
-pub const HEAD_BYTES: usize = 20;
+/// The kind of the first call; the others follow in the order of their names.
+pub const FIRST_CALL: usize = 11;
+/// Bytes of a record: four words.
+pub const RECORD_BYTES: usize = 16;
+
+/// What the proved program has to agree on with this one, as its source.
+pub fn shared_source() -> String {
+    fn constant(name: &str, kind: &str, value: impl std::fmt::Display) -> String {
+        format!("pub const {name}: {kind} = {value};\n")
+    }
+    let room = |area: Area| constant(&format!("MOST_{}", area.name), "usize", area.most);
+    let mut rooms = AREAS.map(room).to_vec();
+    rooms.push(constant("MOST_BYTES", "usize", MOST_BYTES));
+    let before = vec![
+        constant("BYTE_BEFORE", "u8", BYTE_BEFORE),
+        constant("SLOT_BEFORE", "i32", SLOT_BEFORE),
+    ];
+    let hash = vec![
+        constant("MODULUS", "u64", Hash::MODULUS),
+        constant("BASE", "u64", Hash::BASE),
+    ];
+    let groups = [
+        ("Slots and bytes that an area may have.", rooms),
+        (
+            "What every byte and slot that a call may write holds before it.",
+            before,
+        ),
+        ("The hash's prime and its base.", hash),
+    ];
+    let groups = groups.map(|(about, constants)| format!("// {about}\n{}", constants.join("\n")));
+    format!(
+        "// What the replay and the independent program have to agree on. Written by tools/feeds \
+         from rust/plain/src/feed.rs: change it there.\n\n{}",
+        groups.join("\n")
+    )
+}
 
 /// The value at a fixed base of the polynomial whose coefficients are the words
 /// plus 1, modulo a prime.
@@ -33,7 +86,7 @@ pub const HEAD_BYTES: usize = 20;
 /// have one hash at n of the prime's 2^40 bases at most, and the code under test
 /// does not know the base: to be missed, a fault would have to hit it by chance.
 /// The residues are small enough for a product of 64 bits, because the proved
-/// programs, which compute the same, have no wider one.
+/// program, which computes the same, has no wider one.
 #[derive(Clone, Copy, Debug, Default, PartialEq, Eq)]
 pub struct Hash(pub u64);
 
@@ -59,121 +112,113 @@ impl Hash {
     }
 }
 
-/// The line of a call: its name, the refusal's number (0: none) and value, the hash.
-fn line(call: &Call, answer: Answer, hash: Hash) -> String {
-    let (number, value) = match answer {
-        Ok(value) => (0, value),
-        Err(refusal) => (refusal.number(), refusal.value()),
-    };
-    let name = call_name(call);
-    format!("{name} {number} {value} {:x}\n", hash.0)
+/// The line of a call: its name, the number and the value of its answer, the hash.
+fn line(call: &Call, answer: u64, hash: Hash) -> String {
+    let (number, value) = (number_of(answer), value_of(answer));
+    format!("{} {number} {value} {:x}\n", call.name(), hash.0)
 }
 
 /// Makes a call and gives its line.
 pub fn answer_line(call: &Call) -> String {
     match call {
-        Call::Pack { inputs, out } => {
-            let mut area = vec![BYTE_BEFORE; *out];
-            let answer = inputs.pack(&mut area);
-            line(call, answer, Hash::default().bytes(&area))
+        Call::Pack { writer, out } => {
+            let mut out = vec![BYTE_BEFORE; *out];
+            let (slots, samples) = (&writer.settings, &writer.samples);
+            let answer = pack(slots, &writer.tables, samples, writer.scratch, &mut out);
+            line(call, answer, Hash::default().bytes(&out))
         }
-        Call::Length { inputs } => line(call, inputs.length(), Hash::default()),
+        Call::Length { writer } => {
+            let (slots, samples) = (&writer.settings, &writer.samples);
+            let answer = length(slots, &writer.tables, samples, writer.scratch);
+            line(call, answer, Hash::default())
+        }
         Call::Open {
             file,
             scratch,
-            table_area,
-            image_area,
+            tables,
+            image,
+            settings,
         } => {
-            let mut tables = vec![SLOT_BEFORE; *table_area];
-            let mut image = vec![SLOT_BEFORE; *image_area];
-            let answer = open(file, *scratch, &mut tables, &mut image);
-            let areas = Hash::default().slots(&tables).slots(&image);
-            settings_line(call, answer, areas)
+            let mut tables = vec![SLOT_BEFORE; *tables];
+            let mut image = vec![SLOT_BEFORE; *image];
+            let mut slots = vec![SLOT_BEFORE; *settings];
+            let answer = open(file, *scratch, &mut tables, &mut image, &mut slots);
+            let hash = Hash::default().slots(&tables).slots(&image).slots(&slots);
+            line(call, answer, hash)
         }
-        Call::Look { file } => settings_line(call, look(file), Hash::default()),
+        Call::Look { file, settings } => {
+            let mut slots = vec![SLOT_BEFORE; *settings];
+            let answer = look(file, &mut slots);
+            line(call, answer, Hash::default().slots(&slots))
+        }
     }
 }
 
-/// The line of a call that answers settings, which then are hashed too.
-fn settings_line(call: &Call, answer: Result<Settings, Refusal>, areas: Hash) -> String {
-    let hash = match answer {
-        Ok(settings) => areas.slots(&settings.to_slots()),
-        Err(_) => areas,
-    };
-    line(call, answer.map(|_| 0), hash)
+/// A slot area as a call is lent it: how many slots, and what the first of them hold.
+type Lent<'a> = (Area, usize, &'a [i32]);
+
+/// The slot areas that a call is lent. The program prepares those that it may write.
+fn slot_areas(call: &Call) -> Vec<Lent<'_>> {
+    fn given(area: Area, slots: &[i32]) -> Lent<'_> {
+        (area, slots.len(), slots)
+    }
+    match call {
+        Call::Pack { writer, .. } | Call::Length { writer } => vec![
+            given(SETTINGS, &writer.settings),
+            given(TABLES, &writer.tables),
+            given(IMAGE, &writer.samples),
+            (SCRATCH, writer.scratch, &[]),
+        ],
+        Call::Open {
+            scratch,
+            tables,
+            image,
+            settings,
+            ..
+        } => vec![
+            (SETTINGS, *settings, &[]),
+            (TABLES, *tables, &[]),
+            (IMAGE, *image, &[]),
+            (SCRATCH, *scratch, &[]),
+        ],
+        Call::Look { settings, .. } => vec![(SETTINGS, *settings, &[])],
+    }
 }
 
-/// Whether the proved settings record can hold these: it has a byte for the user's
-/// and truth values for flags. Any other number has a word, and a negative one is
-/// then a number far beyond what is legal, as it is here.
-fn record_holds(settings: &Settings) -> bool {
-    let flags = [
-        settings.signed_samples,
-        settings.band_sequential,
-        settings.reduced_mode,
-        settings.column_sums,
-        settings.custom_weights,
-        settings.accumulator_table,
-    ];
-    (0..=255).contains(&settings.user_data) && flags.iter().all(|flag| (0..=1).contains(flag))
+/// Bytes that the program has to have room for.
+fn bytes_lent(call: &Call) -> usize {
+    match call {
+        Call::Pack { out, .. } => *out,
+        _ => call.file().map_or(0, |file| file.len() + PADDING),
+    }
 }
 
-/// Whether a call fits the arrays of the proved programs.
+/// Whether a call fits the arrays of the proved program.
 pub fn fits(call: &Call) -> bool {
-    match call {
-        Call::Pack { inputs, out } => writer_fits(inputs) && *out <= MOST_BYTES,
-        Call::Length { inputs } => writer_fits(inputs),
-        Call::Open {
-            file,
-            scratch,
-            table_area,
-            image_area,
-        } => {
-            file.len() <= MOST_BYTES
-                && *scratch <= MOST_SCRATCH
-                && *table_area <= MOST_TABLES
-                && *image_area <= MOST_IMAGE
-        }
-        Call::Look { file } => file.len() <= MOST_BYTES,
-    }
-}
-
-fn writer_fits(inputs: &WriterInputs) -> bool {
-    record_holds(&inputs.settings)
-        && inputs.scratch <= MOST_SCRATCH
-        && inputs.tables.len() <= MOST_TABLES
-        && inputs.samples.len() <= MOST_SAMPLES
-}
-
-/// The names of the calls.
-pub const CALL_NAMES: [&str; 4] = ["pack", "length", "open", "look"];
-
-/// The name of a call.
-pub fn call_name(call: &Call) -> &'static str {
-    let [pack, length, open, look] = CALL_NAMES;
-    match call {
-        Call::Pack { .. } => pack,
-        Call::Length { .. } => length,
-        Call::Open { .. } => open,
-        Call::Look { .. } => look,
-    }
+    let areas = slot_areas(call);
+    areas.iter().all(|(area, lent, _)| *lent <= area.most) && bytes_lent(call) <= MOST_BYTES
 }
 
 /// A call that opens the file that a successful pack writes, with areas of exactly
 /// the right lengths.
 pub fn reopening(call: &Call) -> Option<Call> {
-    let Call::Pack { inputs, out } = call else {
+    let Call::Pack { writer, out } = call else {
         return None;
     };
+    let (slots, tables, samples) = (&writer.settings, &writer.tables, &writer.samples);
     let mut file = vec![BYTE_BEFORE; *out];
-    let length = inputs.pack(&mut file).ok()?;
-    file.truncate(length as usize);
-    let shape = inputs.settings.shape();
+    let answer = pack(slots, tables, samples, writer.scratch, &mut file);
+    if number_of(answer) != 0 {
+        return None;
+    }
+    file.truncate(value_of(answer) as usize);
+    let shape = Settings::from_slots(slots).ok()?.shape();
     Some(Call::Open {
         file,
         scratch: SCRATCH_STRIDE * shape.bands,
-        table_area: TABLE_STRIDE * shape.bands,
-        image_area: shape.sample_count(),
+        tables: TABLE_STRIDE * shape.bands,
+        image: shape.sample_count(),
+        settings: SETTING_SLOTS,
     })
 }
 
@@ -197,6 +242,20 @@ pub struct Change {
 }
 
 impl Change {
+    /// The change that leaves a call as it is; the length is that of its file or output.
+    pub fn none(call: &Call) -> Change {
+        let file = call.file().unwrap_or_default();
+        let length = match call {
+            Call::Pack { out, .. } => *out,
+            _ => file.len(),
+        };
+        Change {
+            place: 0,
+            byte: file.first().copied().unwrap_or(0),
+            length,
+        }
+    }
+
     /// The changed file; what lies behind the old end is zero.
     pub fn apply(&self, file: &[u8]) -> Vec<u8> {
         let mut changed = file.to_vec();
@@ -251,15 +310,13 @@ impl Changes {
 /// How many calls of each kind a feed has, and how many did not fit.
 #[derive(Clone, Copy, Debug, Default, PartialEq, Eq)]
 pub struct Counts {
-    pub pack: usize,
-    pub length: usize,
-    pub open: usize,
-    pub look: usize,
+    /// By the calls' kinds.
+    pub calls: [usize; 4],
     pub changed: usize,
     pub left_out: usize,
 }
 
-/// An input for the proved programs and the output that it asks for.
+/// An input for the proved program and the output that it asks for.
 #[derive(Clone, Debug, Default, PartialEq, Eq)]
 pub struct Feed {
     input: Vec<u8>,
@@ -274,74 +331,55 @@ impl Feed {
             self.counts.left_out += 1;
             return false;
         }
-        match call {
-            Call::Pack { inputs, out } => {
-                self.counts.pack += 1;
-                self.put_writer(1, inputs, *out);
-            }
-            Call::Length { inputs } => {
-                self.counts.length += 1;
-                self.put_writer(2, inputs, 0);
-            }
-            Call::Open {
-                file,
-                scratch,
-                table_area,
-                image_area,
-            } => {
-                self.counts.open += 1;
-                self.put_head([3, file.len(), *scratch, *table_area, *image_area]);
-                self.put_file(file);
-            }
-            Call::Look { file } => {
-                self.counts.look += 1;
-                self.put_head([4, file.len(), 0, 0, 0]);
-                self.put_file(file);
+        for (area, lent, given) in slot_areas(call) {
+            self.put_record([area.kind, lent, given.len(), 0]);
+            for &slot in given {
+                self.put_word(slot as u32);
             }
         }
+        if let Some(file) = call.file() {
+            self.put_record([BYTES, 0, file.len() + PADDING, 0]);
+            self.input.extend(file);
+            self.input.extend([0; PADDING]);
+        }
+        self.counts.calls[call.kind()] += 1;
+        self.put_call(call, Change::none(call));
         self.output.push_str(&answer_line(call));
         true
     }
 
-    /// Adds a call of the reader and the changes of its file, as long as the input
-    /// has at most `most` bytes.
-    pub fn add_changed(&mut self, call: &Call, changes: &Changes, most: usize) {
+    /// Adds a call, if it fits, and if it reads a file the changes of this, as long as
+    /// the input has at most `most` bytes.
+    pub fn add_changed(&mut self, call: &Call, changes: &Changes, most: usize) -> bool {
         if !self.add(call) {
-            return;
+            return false;
         }
-        let (Call::Open { file, .. } | Call::Look { file }) = call else {
-            return;
+        let Some(file) = call.file() else {
+            return true;
         };
         for change in changes.of(file) {
-            if self.input.len() + 2 * HEAD_BYTES > most {
+            if self.input.len() + 2 * RECORD_BYTES > most {
                 self.counts.left_out += 1;
                 continue;
             }
-            let Change {
-                place,
-                byte,
-                length,
-            } = change;
             self.counts.changed += 1;
-            self.put_head([5, place, usize::from(byte), length, 0]);
-            let changed = with_file(call, change.apply(file));
+            self.put_call(call, change);
+            let changed = call.with_file(change.apply(file));
             self.output.push_str(&answer_line(&changed));
         }
+        true
     }
 
-    /// The input, ended by a head of zeros, and the output.
+    /// The input, ended by a record of zeros, and the output.
     pub fn finish(mut self) -> (Vec<u8>, String) {
-        self.put_head([0; 5]);
+        self.put_record([0; 4]);
         (self.input, self.output)
     }
 
     /// A line that says how many calls there are.
     pub fn summary(&self) -> String {
         let Counts {
-            pack,
-            length,
-            open,
-            look,
+            calls: [pack, length, open, look],
             changed,
             left_out,
         } = self.counts;
@@ -357,37 +395,19 @@ impl Feed {
         self.input.extend(word.to_be_bytes());
     }
 
-    fn put_head(&mut self, words: [usize; 5]) {
+    fn put_record(&mut self, words: [usize; 4]) {
         for word in words {
             self.put_word(word as u32);
         }
     }
 
-    fn put_slots(&mut self, slots: &[i32]) {
-        for &slot in slots {
-            self.put_word(slot as u32);
-        }
+    /// The record of a call, whose file is changed.
+    fn put_call(&mut self, call: &Call, change: Change) {
+        let Change {
+            place,
+            byte,
+            length,
+        } = change;
+        self.put_record([FIRST_CALL + call.kind(), place, usize::from(byte), length]);
     }
-
-    fn put_writer(&mut self, kind: usize, inputs: &WriterInputs, out: usize) {
-        let (tables, samples) = (&inputs.tables, &inputs.samples);
-        self.put_head([kind, inputs.scratch, tables.len(), samples.len(), out]);
-        self.put_slots(&inputs.settings.to_slots());
-        self.put_slots(tables);
-        self.put_slots(samples);
-    }
-
-    fn put_file(&mut self, file: &[u8]) {
-        self.input.extend(file);
-        self.input.extend([0; PADDING]);
-    }
-}
-
-/// A call of the reader with another file.
-fn with_file(call: &Call, changed: Vec<u8>) -> Call {
-    let mut call = call.clone();
-    if let Call::Open { file, .. } | Call::Look { file } = &mut call {
-        *file = changed;
-    }
-    call
 }

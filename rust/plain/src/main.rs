@@ -5,24 +5,30 @@ use std::io::Write;
 use std::path::{Path, PathBuf};
 use std::process::ExitCode;
 
-use plain::case::{parse_case, split_cases, Call, Case};
-use plain::feed::{call_name, fits, reopening, Changes, Feed, CALL_NAMES};
+use plain::boundary::{Call, KINDS};
+use plain::case::{parse_case, split_cases, Case};
+use plain::feed::{answer_line, fits, reopening, shared_source, Changes, Feed};
 use plain::make::{random_case, Random};
-use plain::shapes::header_shapes;
+use plain::settings::SETTING_SLOTS;
+use plain::shapes::{boundary_shapes, header_shapes};
 use plain::unfeed::calls_of;
 
 const USAGE: &str = "\
 usage: plain answer CASE...            answers the calls of case files or directories
        plain check CASE...             compares the recorded answers with computed ones
        plain make SEED COUNT [DIR]     makes random cases, in a directory or on the output
-       plain unfeed INPUT LINE         prints the case of a line of a feed's output
-       plain feed INPUT OUTPUT [OPTION...] [CASE...]
-                                       writes calls as input of the proved programs, and
-                                       the output that these must write
-  --calls NAME,NAME    takes only these calls of the cases: pack, length, open, look
+       plain unfeed INPUT LINE         prints the call of a line of a feed's output
+       plain shared                    prints what the proved program shares, as its source
+       plain feed INPUT OUTPUT WORD...
+                                       writes calls as input of the proved program, and the
+                                       output that it must write; the words in their order:
+  CASE                 adds the cases of a file or directory
   --random SEED COUNT  adds so many random cases that fit
   --headers SEED       adds a look at headers of every shape
-  --reopen             opens each packed file again
+  --boundary           adds calls with lists and areas of every length, and odd slots
+  what follows these does as they say:
+  --calls NAME,NAME    takes only these calls of cases: pack, length, open, look
+  --reopen             opens each packed file of a case again
   --flips BYTES        flips each bit of files up to this length
   --cuts BYTES         cuts files up to this length at each length
   --extensions         lengthens files by 1 to 9 bytes
@@ -37,6 +43,10 @@ fn main() -> ExitCode {
         ["make", seed, count] => make(seed, count, None),
         ["make", seed, count, directory] => make(seed, count, Some(Path::new(directory))),
         ["unfeed", input, line] => unfeed(input, line),
+        ["shared"] => {
+            print(&shared_source());
+            Ok(true)
+        }
         ["feed", input, output, words @ ..] => feed(input, output, words),
         _ => Err(USAGE.to_string()),
     };
@@ -150,85 +160,113 @@ fn make(seed: &str, count: &str, directory: Option<&Path>) -> Result<bool, Strin
     Ok(true)
 }
 
-/// What a feed is made of.
-#[derive(Default)]
-struct FeedOptions<'a> {
-    /// The calls to take of the cases; none: all.
+/// A feed, and how what is added next goes into it.
+struct Feeding<'a> {
+    feed: Feed,
+    /// The calls to take of cases; none: all.
     calls: Vec<&'a str>,
-    /// Seed and count of random cases.
-    random: Option<(u64, usize)>,
-    /// The seed of headers of every shape.
-    headers: Option<u64>,
     reopen: bool,
     changes: Changes,
-    most: Option<usize>,
-    paths: Vec<&'a str>,
+    most: usize,
 }
 
-impl<'a> FeedOptions<'a> {
-    fn parse(mut words: &[&'a str]) -> Result<FeedOptions<'a>, String> {
-        let mut options = FeedOptions::default();
+impl<'a> Feeding<'a> {
+    /// Does what the words ask for, one after the other.
+    fn take(&mut self, mut words: &[&'a str]) -> Result<(), String> {
         loop {
             words = match words {
-                [] => return Ok(options),
+                [] => return Ok(()),
                 ["--calls", names, rest @ ..] => {
-                    options.calls = call_names(names)?;
-                    rest
-                }
-                ["--random", seed, count, rest @ ..] => {
-                    options.random = Some((number(seed)?, number(count)?));
-                    rest
-                }
-                ["--headers", seed, rest @ ..] => {
-                    options.headers = Some(number(seed)?);
+                    self.calls = call_names(names)?;
                     rest
                 }
                 ["--flips", bytes, rest @ ..] => {
-                    options.changes.flips = number(bytes)?;
+                    self.changes.flips = number(bytes)?;
                     rest
                 }
                 ["--cuts", bytes, rest @ ..] => {
-                    options.changes.cuts = number(bytes)?;
+                    self.changes.cuts = number(bytes)?;
                     rest
                 }
                 ["--most", bytes, rest @ ..] => {
-                    options.most = Some(number(bytes)?);
+                    self.most = number(bytes)?;
+                    rest
+                }
+                ["--random", seed, count, rest @ ..] => {
+                    self.add_random(number(seed)?, number(count)?);
+                    rest
+                }
+                ["--headers", seed, rest @ ..] => {
+                    self.add_headers(number(seed)?);
                     rest
                 }
                 [word, rest @ ..] => {
-                    options.take_word(word)?;
+                    self.take_word(word)?;
                     rest
                 }
             };
         }
     }
 
-    /// An option without a value, or a path.
-    fn take_word(&mut self, word: &'a str) -> Result<(), String> {
+    /// A word without a value, or a path.
+    fn take_word(&mut self, word: &str) -> Result<(), String> {
         match word {
             "--reopen" => self.reopen = true,
             "--extensions" => self.changes.extensions = true,
+            "--boundary" => {
+                for call in boundary_shapes() {
+                    self.feed.add(&call);
+                }
+            }
             option if option.starts_with("--") => return Err(USAGE.to_string()),
-            path => self.paths.push(path),
+            path => self.add_cases(path)?,
         }
         Ok(())
     }
 
-    /// Whether a call of the cases is to be taken.
+    /// Whether a call of a case is to be taken.
     fn takes(&self, call: &Call) -> bool {
-        self.calls.is_empty() || self.calls.contains(&call_name(call))
+        self.calls.is_empty() || self.calls.contains(&call.name())
     }
 
     /// Adds a call. A file that it reads, or if asked packs and then opens, is also
     /// changed.
-    fn add(&self, feed: &mut Feed, call: &Call) {
-        let most = self.most.unwrap_or(usize::MAX);
-        if matches!(call, Call::Open { .. } | Call::Look { .. }) {
-            feed.add_changed(call, &self.changes, most);
-        } else if feed.add(call) && self.reopen {
-            if let Some(opening) = reopening(call) {
-                feed.add_changed(&opening, &self.changes, most);
+    fn add(&mut self, call: &Call) {
+        let is_fed = self.feed.add_changed(call, &self.changes, self.most);
+        let opening = if is_fed && self.reopen {
+            reopening(call)
+        } else {
+            None
+        };
+        if let Some(opening) = opening {
+            self.feed.add_changed(&opening, &self.changes, self.most);
+        }
+    }
+
+    fn add_cases(&mut self, path: &str) -> Result<(), String> {
+        for Named { name, text } in read_cases(&[path])? {
+            let (case, _) = parse_case(&text).map_err(|error| format!("{name}: {error}"))?;
+            let call = Call::from(&case.call);
+            if self.takes(&call) {
+                self.add(&call);
             }
+        }
+        Ok(())
+    }
+
+    fn add_random(&mut self, seed: u64, count: usize) {
+        let mut random = Random::new(seed);
+        let mut drawn = std::iter::repeat_with(|| Call::from(&random_case(&mut random).call));
+        for _ in 0..count {
+            let taken = drawn.find(|call| self.takes(call) && fits(call));
+            taken.iter().for_each(|call| self.add(call));
+        }
+    }
+
+    fn add_headers(&mut self, seed: u64) {
+        let settings = SETTING_SLOTS;
+        for file in header_shapes(seed) {
+            self.add(&Call::Look { file, settings });
         }
     }
 }
@@ -236,7 +274,7 @@ impl<'a> FeedOptions<'a> {
 /// The calls that a list names.
 fn call_names(list: &str) -> Result<Vec<&str>, String> {
     let names: Vec<&str> = list.split(',').collect();
-    match names.iter().find(|name| !CALL_NAMES.contains(name)) {
+    match names.iter().find(|name| !KINDS.contains(name)) {
         Some(name) => Err(format!("there is no call {name}")),
         None => Ok(names),
     }
@@ -247,27 +285,16 @@ fn number<T: std::str::FromStr>(word: &str) -> Result<T, String> {
 }
 
 fn feed(input: &str, output: &str, words: &[&str]) -> Result<bool, String> {
-    let options = FeedOptions::parse(words)?;
-    let mut feed = Feed::default();
-    for Named { name, text } in read_cases(&options.paths)? {
-        let (case, _) = parse_case(&text).map_err(|error| format!("{name}: {error}"))?;
-        if options.takes(&case.call) {
-            options.add(&mut feed, &case.call);
-        }
-    }
-    if let Some((seed, count)) = options.random {
-        let mut random = Random::new(seed);
-        let drawn = std::iter::repeat_with(|| random_case(&mut random).call);
-        let taken = drawn.filter(|call| options.takes(call) && fits(call));
-        taken
-            .take(count)
-            .for_each(|call| options.add(&mut feed, &call));
-    }
-    for file in options.headers.map(header_shapes).unwrap_or_default() {
-        options.add(&mut feed, &Call::Look { file });
-    }
-    let summary = feed.summary();
-    let (bytes, lines) = feed.finish();
+    let mut feeding = Feeding {
+        feed: Feed::default(),
+        calls: Vec::new(),
+        reopen: false,
+        changes: Changes::default(),
+        most: usize::MAX,
+    };
+    feeding.take(words)?;
+    let summary = feeding.feed.summary();
+    let (bytes, lines) = feeding.feed.finish();
     for (path, contents) in [(input, bytes), (output, lines.into_bytes())] {
         fs::write(path, contents).map_err(|error| format!("{path}: {error}"))?;
     }
@@ -280,12 +307,15 @@ fn unfeed(input: &str, line: &str) -> Result<bool, String> {
     let bytes = fs::read(input).map_err(|error| format!("{input}: {error}"))?;
     let calls = calls_of(&bytes).map_err(|error| format!("{input}: {error}"))?;
     let call = index.checked_sub(1).and_then(|index| calls.get(index));
-    let case = Case {
-        note: format!("line {line}"),
-        call: call
-            .ok_or(format!("{input} has {} calls", calls.len()))?
-            .clone(),
-    };
-    print(&(case.inputs_text() + &case.answer_text()));
+    let call = call.ok_or(format!("{input} has {} calls", calls.len()))?;
+    // What is lent another number of settings slots is no case: then in words.
+    print(&match call.to_case() {
+        Some(call) => {
+            let note = format!("line {line}");
+            let case = Case { note, call };
+            case.inputs_text() + &case.answer_text()
+        }
+        None => format!("{}\n{}", call.describe(), answer_line(call)),
+    });
     Ok(true)
 }

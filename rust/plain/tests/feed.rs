@@ -1,35 +1,42 @@
-//! The feeds of the proved programs: the format both ways, the lines, the changes.
+//! The feed of the proved program: the format both ways, the lines, the changes.
 
-use plain::case::{parse_case, Call, WriterInputs};
+use plain::boundary::{Call, Writer, KINDS};
+use plain::case::parse_case;
 use plain::feed::{
-    answer_line, call_name, fits, reopening, Change, Changes, Feed, Hash, HEAD_BYTES, PADDING,
+    answer_line, fits, reopening, shared_source, Change, Changes, Feed, Hash, AREAS, PADDING,
+    RECORD_BYTES,
 };
 use plain::make::{random_case, random_inputs, Random};
-use plain::shapes::header_shapes;
+use plain::shapes::{boundary_shapes, header_shapes};
 use plain::unfeed::calls_of;
 use plain::Settings;
 
 mod common;
+
+/// What the writer is given for the paper's worked file.
+fn worked_writer() -> Writer {
+    Writer::from(&common::inputs(common::worked_settings(1), &[130]))
+}
 
 #[test]
 fn what_is_written_reads_back() {
     let mut random = Random::new(3);
     let mut feed = Feed::default();
     let mut added = Vec::new();
-    for _ in 0..400 {
-        let call = random_case(&mut random).call;
-        if feed.add(&call) {
-            assert!(fits(&call));
-            added.push(call);
+    let drawn = std::iter::repeat_with(|| Call::from(&random_case(&mut random).call)).take(400);
+    let calls: Vec<Call> = drawn.chain(boundary_shapes()).collect();
+    for call in &calls {
+        if feed.add(call) {
+            assert!(fits(call));
+            added.push(call.clone());
         }
     }
     let counts = feed.counts();
-    assert_eq!(counts.left_out, 400 - added.len());
-    let count = |name| added.iter().filter(|call| call_name(call) == name).count();
-    assert_eq!(counts.pack, count("pack"));
-    assert_eq!(counts.length, count("length"));
-    assert_eq!(counts.open, count("open"));
-    assert_eq!(counts.look, count("look"));
+    assert_eq!(counts.left_out, calls.len() - added.len());
+    for (name, counted) in KINDS.iter().zip(counts.calls) {
+        let count = added.iter().filter(|call| call.name() == *name).count();
+        assert_eq!(counted, count);
+    }
     assert_eq!(counts.changed, 0);
     let (input, output) = feed.finish();
     assert_eq!(calls_of(&input), Ok(added.clone()));
@@ -37,8 +44,8 @@ fn what_is_written_reads_back() {
     assert_eq!(output, lines);
 }
 
-/// A head, by its words.
-fn head(words: [u32; 5]) -> Vec<u8> {
+/// A record, by its words.
+fn record(words: [u32; 4]) -> Vec<u8> {
     words.iter().flat_map(|word| word.to_be_bytes()).collect()
 }
 
@@ -47,6 +54,7 @@ fn the_format_is_as_documented() {
     let mut feed = Feed::default();
     let look = Call::Look {
         file: vec![0xAB, 0xCD],
+        settings: 25,
     };
     let changes = Changes {
         flips: 0,
@@ -54,39 +62,65 @@ fn the_format_is_as_documented() {
         extensions: false,
     };
     feed.add_changed(&look, &changes, usize::MAX);
-    let mut inputs = common::inputs(common::worked_settings(1), &[-2]);
-    inputs.tables = vec![i32::MIN];
-    assert!(feed.add(&Call::Pack { inputs, out: 5 }));
-    let mut expected = head([4, 2, 0, 0, 0]);
+    let writer = Writer {
+        settings: vec![7, -1],
+        tables: vec![i32::MIN],
+        samples: vec![-2],
+        scratch: 32,
+    };
+    assert!(feed.add(&Call::Pack { writer, out: 5 }));
+    let mut expected = record([1, 25, 0, 0]);
+    expected.extend(record([5, 0, 11, 0]));
     expected.extend([0xAB, 0xCD, 0, 0, 0, 0, 0, 0, 0, 0, 0]);
-    expected.extend(head([5, 0, 0xAB, 0, 0]));
-    expected.extend(head([5, 0, 0xAB, 1, 0]));
-    expected.extend(head([1, 32, 1, 1, 5]));
-    for slot in common::worked_settings(1).to_slots() {
-        expected.extend(slot.to_be_bytes());
-    }
-    expected.extend([0x80, 0, 0, 0, 0xFF, 0xFF, 0xFF, 0xFE]);
-    expected.extend(head([0; 5]));
+    expected.extend(record([14, 0, 0xAB, 2]));
+    expected.extend(record([14, 0, 0xAB, 0]));
+    expected.extend(record([14, 0, 0xAB, 1]));
+    expected.extend(record([1, 2, 2, 0]));
+    expected.extend([0, 0, 0, 7, 0xFF, 0xFF, 0xFF, 0xFF]);
+    expected.extend(record([2, 1, 1, 0]));
+    expected.extend([0x80, 0, 0, 0]);
+    expected.extend(record([3, 1, 1, 0]));
+    expected.extend([0xFF, 0xFF, 0xFF, 0xFE]);
+    expected.extend(record([4, 32, 0, 0]));
+    expected.extend(record([11, 0, 0, 5]));
+    expected.extend(record([0; 4]));
     assert_eq!(feed.finish().0, expected);
 }
 
 #[test]
+fn the_shared_numbers_are_those_of_the_proved_program() {
+    let path = concat!(
+        env!("CARGO_MANIFEST_DIR"),
+        "/../../crates/replay_areas/src/shared.rt"
+    );
+    let source = std::fs::read_to_string(path).expect("the source");
+    assert_eq!(source, shared_source());
+    for area in AREAS {
+        assert!(source.contains(&format!("MOST_{}: usize = {};", area.name, area.most)));
+    }
+}
+
+#[test]
 fn what_is_no_feed_is_no_feed() {
-    for words in [[6, 0, 0, 0, 0], [5, 0, 0, 0, 0], [4, 1, 0, 0, 0]] {
-        assert!(calls_of(&head(words)).is_err());
+    for words in [[6, 0, 0, 0], [10, 0, 0, 0], [15, 0, 0, 0], [14, 0, 0, 0]] {
+        assert!(calls_of(&[record(words), record([0; 4])].concat()).is_err());
+    }
+    for words in [[1, 1, 1, 0], [5, 0, 10, 0]] {
+        assert!(calls_of(&record(words)).is_err());
     }
     assert!(calls_of(&[]).is_err());
-    assert!(calls_of(&[0; HEAD_BYTES + 1]).is_err());
-    let mut input = head([4, 0, 0, 0, 0]);
+    assert!(calls_of(&[0; RECORD_BYTES + 1]).is_err());
+    let mut input = record([5, 0, 9, 0]);
     input.extend([0; PADDING]);
-    for words in [[5, 9, 0, 0, 0], [5, 0, 256, 0, 0], [5, 0, 0, 10, 0]] {
-        let changed = [input.clone(), head(words), head([0; 5])].concat();
+    for words in [[14, 9, 0, 0], [14, 0, 256, 0], [14, 0, 0, 10]] {
+        let changed = [input.clone(), record(words), record([0; 4])].concat();
         assert!(calls_of(&changed).is_err());
     }
-    assert_eq!(
-        calls_of(&[input, head([0; 5])].concat()).map(|calls| calls.len()),
-        Ok(1)
-    );
+    let whole = [input.clone(), record([14, 0, 0, 0]), record([0; 4])].concat();
+    assert_eq!(calls_of(&whole).map(|calls| calls.len()), Ok(1));
+    // The bytes behind a file are zero.
+    input[RECORD_BYTES] = 1;
+    assert!(calls_of(&[input, record([0; 4])].concat()).is_err());
 }
 
 #[test]
@@ -135,14 +169,11 @@ fn changed_files_read_back_and_stop_at_the_cap() {
     let inputs = random_inputs(&mut Random::new(5));
     let length = inputs.length().expect("legal inputs") as usize;
     let pack = Call::Pack {
-        inputs,
+        writer: Writer::from(&inputs),
         out: length + 3,
     };
     let open = reopening(&pack).expect("a file");
-    let Call::Open { file, .. } = &open else {
-        panic!("an open");
-    };
-    assert_eq!(file.len(), length);
+    assert_eq!(open.file().map(<[u8]>::len), Some(length));
     let changes = Changes {
         flips: length,
         cuts: length,
@@ -156,7 +187,8 @@ fn changed_files_read_back_and_stop_at_the_cap() {
     assert_eq!(calls.len(), 1 + 9 * length + 18);
     let lines: String = calls.iter().map(answer_line).collect();
     assert_eq!(output, lines);
-    let most = length + PADDING + 5 * HEAD_BYTES;
+    // Five areas, the call itself, three changes and the end.
+    let most = length + PADDING + 10 * RECORD_BYTES;
     let mut feed = Feed::default();
     feed.add_changed(&open, &changes, most);
     assert_eq!(feed.counts().changed, 3);
@@ -196,64 +228,96 @@ fn the_hash_is_the_polynomial() {
 
 #[test]
 fn lines_say_what_the_call_gave() {
-    let inputs = common::inputs(common::worked_settings(1), &[130]);
-    let file = common::packed(&inputs);
+    let writer = worked_writer();
+    let file = common::packed(&common::inputs(common::worked_settings(1), &[130]));
     let mut area: Vec<u32> = file.iter().map(|&byte| u32::from(byte)).collect();
     area.push(0xA5);
     let pack = |out| Call::Pack {
-        inputs: inputs.clone(),
+        writer: writer.clone(),
         out,
     };
     let hash = hash_of(&area);
     assert_eq!(answer_line(&pack(21)), format!("pack 0 20 {hash:x}\n"));
     let zeros = hash_of(&[0; 19]);
     assert_eq!(answer_line(&pack(19)), format!("pack 6 20 {zeros:x}\n"));
-    let length = Call::Length { inputs };
+    let length = Call::Length {
+        writer: writer.clone(),
+    };
     assert_eq!(answer_line(&length), "length 0 20 0\n");
+    let before = -123_456_789_i32 as u32;
     let mut slots = vec![0; 19];
     slots.push(130);
-    let settings = common::worked_settings(1).to_slots();
-    slots.extend(settings.map(|slot| slot as u32));
-    let open = |image_area| Call::Open {
+    slots.extend(writer.settings.iter().map(|&slot| slot as u32));
+    slots.push(before);
+    let open = |image, settings| Call::Open {
         file: file.clone(),
         scratch: 32,
-        table_area: 19,
-        image_area,
+        tables: 19,
+        image,
+        settings,
     };
+    let hash = hash_of(&slots[..44]);
+    assert_eq!(answer_line(&open(1, 24)), format!("open 0 1 {hash:x}\n"));
     let hash = hash_of(&slots);
-    assert_eq!(answer_line(&open(1)), format!("open 0 0 {hash:x}\n"));
-    let before = hash_of(&[-123_456_789_i32 as u32; 19]);
-    assert_eq!(answer_line(&open(0)), format!("open 3 0 {before:x}\n"));
-    let hash = hash_of(&slots[20..]);
-    let look = Call::Look { file: file.clone() };
-    assert_eq!(answer_line(&look), format!("look 0 0 {hash:x}\n"));
-    let look = Call::Look {
-        file: file[..18].to_vec(),
+    assert_eq!(answer_line(&open(1, 25)), format!("open 0 1 {hash:x}\n"));
+    let untouched = hash_of(&[before; 43]);
+    for call in [open(0, 24), open(1, 23)] {
+        assert_eq!(answer_line(&call), format!("open 3 0 {untouched:x}\n"));
+    }
+    let look = |length: usize, settings| Call::Look {
+        file: file[..length].to_vec(),
+        settings,
     };
-    assert_eq!(answer_line(&look), "look 7 0 0\n");
+    let hash = hash_of(&slots[20..]);
+    assert_eq!(answer_line(&look(20, 25)), format!("look 0 0 {hash:x}\n"));
+    let untouched = hash_of(&[before; 24]);
+    let line = answer_line(&look(18, 24));
+    assert_eq!(line, format!("look 7 0 {untouched:x}\n"));
+    assert_eq!(answer_line(&look(20, 0)), "look 3 0 0\n");
 }
 
 #[test]
-fn calls_that_the_programs_cannot_hold_are_left_out() {
-    let legal = common::inputs(common::worked_settings(1), &[130]);
-    let fits_with = |change: fn(&mut WriterInputs)| {
-        let mut inputs = legal.clone();
-        change(&mut inputs);
-        fits(&Call::Length { inputs })
+fn calls_that_the_program_cannot_hold_are_left_out() {
+    let fits_with = |change: fn(&mut Writer)| {
+        let mut writer = worked_writer();
+        change(&mut writer);
+        fits(&Call::Length { writer })
     };
     assert!(fits_with(|_| {}));
-    // A negative number is a word far beyond what is legal, so the answer is the same.
-    assert!(fits_with(|inputs| inputs.settings.x_size = -1));
-    assert!(!fits_with(|inputs| inputs.settings.user_data = 256));
-    assert!(!fits_with(|inputs| inputs.settings.signed_samples = 2));
-    assert!(!fits_with(|inputs| inputs.scratch = 2_113));
-    assert!(!fits_with(|inputs| inputs.tables = vec![0; 1_281]));
-    assert!(!fits_with(|inputs| inputs.samples = vec![0; 4_097]));
+    assert!(fits_with(|writer| writer.settings = vec![-1; 64]));
+    assert!(!fits_with(|writer| writer.settings = vec![0; 65]));
+    assert!(!fits_with(|writer| writer.scratch = 2_113));
+    assert!(!fits_with(|writer| writer.tables = vec![0; 1_281]));
+    assert!(!fits_with(|writer| writer.samples = vec![0; 786_433]));
     let mut feed = Feed::default();
     let file = vec![0; 16_385];
-    assert!(!feed.add(&Call::Look { file }));
+    assert!(!feed.add(&Call::Look { file, settings: 24 }));
     assert_eq!(feed.counts().left_out, 1);
-    assert_eq!(feed.finish(), (vec![0; HEAD_BYTES], String::new()));
+    assert_eq!(feed.finish(), (vec![0; RECORD_BYTES], String::new()));
+}
+
+#[test]
+fn boundary_shapes_have_every_length_and_odd_slot() {
+    let calls = boundary_shapes();
+    let lines: Vec<String> = calls.iter().map(answer_line).collect();
+    let count = |start: &str| lines.iter().filter(|line| line.starts_with(start)).count();
+    assert!(calls.iter().all(fits));
+    // Lists of 0 to 23 slots, two wrong numbers of samples, sizes of 2 and of 256.
+    assert_eq!(["pack 3 ", "length 3 "].map(count), [32, 32]);
+    assert_eq!(["open 3 ", "look 3 "].map(count), [25, 24]);
+    assert_eq!(["pack 5 ", "open 5 "].map(count), [2, 2]);
+    assert_eq!(count("pack 6 "), 2);
+    // A slot that is no setting here holds anything.
+    for slot in [7, 18] {
+        let mut writer = worked_writer();
+        writer.settings[slot] = i32::MIN;
+        assert!(calls.contains(&Call::Length {
+            writer: writer.clone()
+        }));
+        assert_eq!(answer_line(&Call::Length { writer }), "length 0 20 0\n");
+    }
+    assert!(count("pack 1 ") > 100 && count("length 1 ") > 100);
+    assert!(count("open 0 ") > 5 && count("look 0 ") > 5);
 }
 
 #[test]
@@ -316,7 +380,9 @@ fn the_command_line_feeds() {
     assert_eq!(done, (Some(0), said.to_string()));
     let calls = calls_of(&std::fs::read(&input).expect("the input")).expect("a feed");
     let text = std::fs::read_to_string(&case).expect("a case");
-    assert_eq!(calls[0], parse_case(&text).expect("a case").0.call);
+    let recorded = parse_case(&text).expect("a case").0.call;
+    assert_eq!(calls[0], Call::from(&recorded));
+    assert_eq!(calls[0].to_case(), Some(recorded));
     let lines: String = calls.iter().map(answer_line).collect();
     let written = std::fs::read_to_string(&output).expect("the output");
     assert_eq!(written, lines);
@@ -331,6 +397,16 @@ fn the_command_line_feeds() {
     let said = "0 pack, 0 length, 0 open, 9 look, 0 changed, 0 left out\n";
     let done = run(&["--calls", "look", "--random", "1", "9", &case]);
     assert_eq!(done, (Some(0), said.to_string()));
+    // A list of 23 slots is no case, and told in words.
+    let said = "180 pack, 180 length, 36 open, 36 look, 0 changed, 0 left out\n";
+    assert_eq!(run(&["--boundary"]), (Some(0), said.to_string()));
+    let (status, text) = plain(&["unfeed", &input, "93"]);
+    assert!(status == Some(0) && text.starts_with("pack, output of 20, settings ["));
+    assert!(text
+        .lines()
+        .last()
+        .is_some_and(|line| line.starts_with("pack 3 0 ")));
+    assert_eq!(plain(&["shared"]), (Some(0), shared_source()));
     assert_eq!(run(&["--calls", "close"]).0, Some(2));
     assert_eq!(run(&["--close"]).0, Some(2));
 }
