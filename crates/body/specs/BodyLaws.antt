@@ -29,11 +29,7 @@ use Rattle.coder.specs.EncodingLaws.{decode-encode, encode-decode}
 use Rattle.body.specs.Order.{Place, order}
 use Rattle.body.specs.OrderLaws.{All, all-map, Earlier, Inside, Fine, Sorted, Off, sorted-order, inside-order, complete}
 use Rattle.body.specs.Body.{code, codes, body, mappedOff, restored, readBody}
-
--- samples of the whole image, each in range
-pub record Good (S : Settings) (samples : List ℤ) : Type 0 where
-  pub long : length samples ≡ sampleCount (S .image)
-  pub in-range : (i : ℕ) → inRange (S .image) (getD samples i (pos 0)) ≡ true
+pub use Rattle.body.specs.Good.{Good}
 
 -- the bits of sample v at place p, in the context that the image I gives
 unfoldable pub codeOf : Settings → List ℤ → Image → Place → ℤ → List Bool

@@ -3,4 +3,5 @@ pub mod Order
 pub mod ByHand
 pub mod OrderLaws
 pub mod Body
+pub mod Good
 pub mod BodyLaws

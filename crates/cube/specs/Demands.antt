@@ -18,7 +18,7 @@ use Rattle.settings.specs.declared.Settings.{Settings}
 use Rattle.settings.specs.Legal.{settingsLegal, sampleCount}
 use Rattle.settings.specs.Tables.{stride, scratchStride}
 use Rattle.settings.specs.Checks.{areasShort}
-use Rattle.settings.specs.CheckLaws.{Fine, Roomy}
+use Rattle.settings.specs.Fine.{Fine, Roomy}
 use Rattle.header.specs.Parts.{usedImage}
 use Rattle.header.specs.Tables.{usedTables}
 use Rattle.header.specs.Write.{usedSettings}

@@ -13,7 +13,7 @@ use Rattle.refusals.specs.declared.Refusal.{Refusal}
 use Rattle.settings.specs.Legal.{sampleCount}
 use Rattle.settings.specs.LegalLaws.{legal-settings}
 use Rattle.settings.specs.Tables.{stride, scratchStride, tablesLegal}
-use Rattle.settings.specs.CheckLaws.{Fine}
+use Rattle.settings.specs.Fine.{Fine}
 use Rattle.refusals.specs.Reading.{Read, got, refused}
 use Rattle.header.specs.Tables.{usedTables}
 use Rattle.header.specs.Write.{usedSettings}

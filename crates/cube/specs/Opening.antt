@@ -8,7 +8,7 @@ use lib.ListN.{length, drop}
 use Rattle.refusals.specs.declared.Refusal.the-variants.{BodyEnds, AfterEnd}
 use Rattle.settings.specs.declared.Settings.{Settings}
 use Rattle.settings.specs.Legal.{sampleCount, settingsLegal, limited}
-use Rattle.settings.specs.CheckLaws.{Roomy}
+use Rattle.settings.specs.Fine.{Roomy}
 use Rattle.header_reader.specs.Answers.{Begins}
 use Rattle.body_value.specs.declared.Step.{Step}
 use Rattle.body_value.specs.declared.Step.the-variants as step

@@ -8,10 +8,10 @@ use lib.ListN.{length}
 use Rattle.settings.specs.declared.Settings.{Settings}
 use Rattle.settings.specs.Legal.{settingsLegal, limited, sampleCount}
 use Rattle.settings.specs.Tables.{stride, tablesLegal}
-use Rattle.settings.specs.CheckLaws.{Roomy}
+use Rattle.settings.specs.Fine.{Roomy}
 use Rattle.header.specs.Tables.{usedTables}
 use Rattle.header.specs.Write.{usedSettings}
-use Rattle.body.specs.BodyLaws.{Good}
+use Rattle.body.specs.Good.{Good}
 use Rattle.cube.specs.File.{file}
 use Rattle.cube.specs.Open.{Lent}
 use Rattle.cube.specs.Areas.{filledFrom}

@@ -12,7 +12,7 @@ use refusals::Checked;
 use refusals::Refusal;
 use settings::Settings;
 ghost use lib.ListN.{length};
-ghost use Rattle.settings.specs.CheckLaws.{Fine};
+ghost use Rattle.settings.specs.Fine.{Fine};
 ghost use Rattle.cube.specs.Areas.{Packs, Lengths};
 ghost use Rattle.cube.specs.Writing.{Written};
 

@@ -20,7 +20,7 @@ use Rattle.refusals.specs.Calls.{among, lengthRefuses, packRefuses, openRefuses
 use Rattle.settings.specs.declared.Settings.{Settings}
 use Rattle.settings.specs.Legal.{sampleCount}
 use Rattle.settings.specs.Tables.{stride, scratchStride}
-use Rattle.settings.specs.CheckLaws.{Fine}
+use Rattle.settings.specs.Fine.{Fine}
 use Rattle.header.specs.Tables.{usedTables}
 use Rattle.header.specs.Write.{usedSettings}
 use Rattle.cube.specs.declared.Packed.{Packed}
