@@ -2,7 +2,7 @@
 use mathlib.Core.Path.{_≡_, sym, _∙_, ap, ap₂}
 use mathlib.Core.Bool.{Bool, true, false, cond}
 use mathlib.Core.List.{List, _++_, append-assoc}
-use Prim.Native.Nat.{ℕ, _+_, _-_, _*_, _≤_, min}
+use Prim.Native.Nat.{ℕ, _+_, _-_, _*_, _^_, _≤_, min}
 use native.Mathlib.Omega.{arith}
 use lib.ListN.{length, take, drop, length-take, length-drop, length-append}
 use lib.Seq.{take-at, drop-at, length-take-le}
@@ -11,11 +11,13 @@ use borrow.Rule.Slice.PartMut.{putMid, same-len-mid}
 use Rattle.settings.specs.declared.Settings.{Settings}
 use Rattle.settings.specs.declared.Predictor.{Predictor}
 use Rattle.settings.specs.Tables.{backward, componentCount}
-use Rattle.predictor.specs.LocalSum.{neighboursAt, positionAt, sumAt}
+use Rattle.predictor.specs.LocalSum.{Samples, Position, neighboursAt, positionAt, sumAt}
 use Rattle.predictor.specs.Differences.{Image, imageOf, directional, centralsAt, directionalAt, componentsAt}
 use Rattle.predictor.specs.Lengths.{centralsAt-length}
-use Rattle.predictor.specs.Asks.{bandFrom, bandsOf, Window, Narrow, Below, Differing, Differences}
-use Rattle.predictor.specs.Inputs.{area, settings, samples-small, inside}
+use Rattle.predictor.specs.Asks.{bandFrom, bandsOf, Differing, Differences}
+use Rattle.predictor.specs.Inputs.{area, settings, whole, few, samples-small, inside}
+use Rattle.local_sums.specs.declared.sums.Grid.{Grid}
+use Rattle.local_sums.specs.Asks.{Window, Narrow, Below}
 
 if-true : {A : Type 0} (c : Bool) (a b : A) → c ≡ true → cond c a b ≡ a
 if-true c a b e = ap (λ (x : Bool). cond x a b) e
@@ -54,6 +56,9 @@ module _ (S : Settings) (I : Image) (z t n : ℕ) (h : n ≡ min z (S .predictor
       if-false (S .predictor .reduced) behind (around ++ behind) e
       ∙ ap (λ (m : ℕ). around ++ centralsAt (S .image .nx) (S .predictor .column) I m z t) (sym h)
 
+abbrev grid : Settings → Grid
+grid S = record { nx = S .image .nx; area = area S; column = S .predictor .column }
+
 -- the part of the slots behind the directional differences
 pub middle-long : (n : ℕ) (us ds : List ℤ) → length ds ≡ 3 → length us ≡ 18 → n ≤ 15
     → length (take (3 + n - 3) (drop 3 (ds ++ drop 3 us))) ≡ n
@@ -61,15 +66,21 @@ middle-long n us ds dl ul h =
     let k : 3 + n - 3 ≡ n = omega arith in
     rw (k, drop-at ds (drop 3 us) 3 dl, length-take, length-drop) (omega arith)
 
+-- the samples of band z
+abbrev pub band : Settings → List ℤ → ℕ → Samples
+band S samples z = bandFrom samples (z * area S)
+
 module _ {S : Settings} {samples us : List ℤ} {z t x : ℕ} (d : Differing S samples us z t x) where
-  pub window : Window samples (z * area S) t x (S .image .nx)
+  most : length samples ≤ 2 ^ 40
+  most = omega (arith, whole (d .given), few (d .given))
+
+  pub window : Window samples (z * area S) t (S .image .nx)
   window =
       record {
         later = d .later;
-        column-is = d .column-is;
         wide = settings (d .given) .image .nx-least;
-        inside = inside (d .given)
-            (d .band-in) (d .place-in);
+        inside = inside (d .given) (d .band-in) (d .place-in);
+        most = most;
       }
 
   pub narrow : Narrow (S .image .nx) (S .predictor .column)
@@ -79,22 +90,23 @@ module _ {S : Settings} {samples us : List ℤ} {z t x : ℕ} (d : Differing S s
     pub n-most : n ≤ 15
     n-most = omega (arith, settings (d .given) .predictor .bands-most)
 
-    pub below : (m : ℕ) → m ≡ n → Below samples m z (area S) t x (S .image .nx) (S .predictor .column)
-    below m e = record {
+    pub below : (m : ℕ) → m ≡ n → {p : Position} → p ≡ positionAt (S .image .nx) t → Below samples m (grid S) z t p
+    below m e at = record {
       later = d .later;
-      column-is = d .column-is;
       wide = settings (d .given) .image .nx-least;
+      position-is = at;
       narrow = narrow;
       small = samples-small (d .given);
       place-in = d .place-in;
       few = omega arith;
+      most = most;
       long = let p = inside (d .given) (d .band-in) (d .place-in) in omega arith;
     }
 
     abbrev centralsOf : ℕ → List ℤ
     centralsOf m = centralsAt (S .image .nx) (S .predictor .column) (bandsOf (area S) samples) m z t
 
-    module _ (sum : ℤ) (f : sum ≡ sumAt (S .image .nx) (S .predictor .column) (bandFrom samples (z * area S)) t) where
+    module _ (sum : ℤ) (f : sum ≡ sumAt (S .image .nx) (S .predictor .column) (band S samples z) t) where
       pub reduced-are : (cs : List ℤ) → S .predictor .reduced ≡ true → cs ≡ centralsOf (length (take n us))
           → Differences S samples z t sum (cs ++ drop n us)
       unfolding imageOf
@@ -112,7 +124,7 @@ module _ {S : Settings} {samples us : List ℤ} {z t x : ℕ} (d : Differing S s
           }
 
       pub full-are : (ds cs : List ℤ) → S .predictor .reduced ≡ false → length ds ≡ 3
-          → ds ≡ directional (positionAt (S .image .nx) t) (neighboursAt (S .image .nx) (bandFrom samples (z * area S)) t) sum
+          → ds ≡ directional (positionAt (S .image .nx) t) (neighboursAt (S .image .nx) (band S samples z) t) sum
           → cs ≡ centralsOf (length (take (3 + n - 3) (drop 3 (ds ++ drop 3 us))))
           → Differences S samples z t sum (putMid 3 (3 + n - 3) (ds ++ drop 3 us) cs)
       unfolding imageOf directionalAt
@@ -134,7 +146,7 @@ module _ {S : Settings} {samples us : List ℤ} {z t x : ℕ} (d : Differing S s
                 ∙ take-at (ds ++ cs) rest (3 + n) dc
                 ∙ ap₂ _++_ (g′
                 ∙ ap (λ (y : ℤ). directional (positionAt (S .image .nx) t)
-                (neighboursAt (S .image .nx) (bandFrom samples (z * area S)) t) y) f) c
+                (neighboursAt (S .image .nx) (band S samples z) t) y) f) c
                 ∙ sym (components-full S (bandsOf (area S) samples) z t n h e);
             long = same-len-mid 3 (3 + n - 3) (ds ++ drop 3 us) cs (cl ∙ sym l) ∙ v;
           }

@@ -1,14 +1,34 @@
 // Local sums and differences (4.4, 4.5).
 ghost use mathlib.Core.Path.{_≡_};
 ghost use mathlib.Core.List.{[], _∷_};
-ghost use Prim.Native.Nat.{_^_, _≤_, min};
+ghost use Prim.Native.Nat.{_-_, _^_, _≤_, min};
 ghost use lib.ListN.{length};
 ghost use lib.IntN.{natAbs, _+ℤ_, _*ℤ_};
-ghost use Rattle.predictor.specs.LocalSum.{two, neighboursAt, positionAt, sumAt};
-ghost use Rattle.predictor.specs.Differences.{difference, directional, centralAt, centralsAt};
-ghost use Rattle.predictor.specs.Each.{Each};
-ghost use Rattle.predictor.specs.Asks.{Sample, Window, Narrow, Below, Differing, Differences, bandFrom, bandsOf};
+ghost use Rattle.predictor.specs.LocalSum.{two, localSum};
+ghost use Rattle.predictor.specs.Differences.{difference, directional, centralsAt};
+ghost use Rattle.predictor.specs.SizeLaws.{Around};
+ghost use Rattle.predictor.specs.Asks.{Sample, Differing, Differences, bandsOf};
+ghost use Rattle.local_sums.specs.Fetch.{neighboursOf, positionOf};
+ghost use Rattle.local_sums.specs.Asks.{Centre, centre, Below, directionsOf};
+use super::neighbours::Neighbours;
+use super::neighbours::Position;
+use super::neighbours::fetch;
+use super::neighbours::position_at;
 use settings::Settings;
+
+// Differences to the north, the west and the north-west.
+pub struct Directions {
+    pub north: i32,
+    pub west: i32,
+    pub north_west: i32,
+}
+
+// How samples lie, in rows of nx and bands of area, and whether sums go by columns.
+pub struct Grid {
+    pub nx: usize,
+    pub area: usize,
+    pub column: bool,
+}
 
 // A sample as often as it counts.
 fn times(count: i32, sample: i32) -> i64
@@ -38,34 +58,23 @@ fn inside_sum(west: i32, corner: i32, north: i32, east: i32) -> i64
     (west as i64) + (corner as i64) + (north as i64) + (east as i64)
 }
 
-// The local sum at place t, in column x, of the band whose samples begin at base.
-fn local_sum(image: &[i32], base: usize, t: usize, x: usize, nx: usize, column: bool) -> i64
-    requires { ⌜ Window (now image) base t x nx × Narrow nx column ⌝ }
-    ensures { λ r. ⌜ r ≡ sumAt nx column (bandFrom (now (image .entry)) base) t ⌝ }
+// The local sum of the neighbours of a place.
+pub fn local_sum(column: bool, p: Position, n: Neighbours) -> i64
+    ensures { λ r. ⌜ r ≡ localSum column (positionOf p) (neighboursOf n) ⌝ }
 {
-    if t < nx {
-        return times(4, image[base + (t - 1)]);
+    if p.first_row {
+        return times(4, n.west);
     }
-    let north = base + (t - nx);
     if column {
-        return times(4, image[north]);
+        return times(4, n.north);
     }
-    if x + 1 == nx {
-        return last_column_sum(
-            image[base + (t - 1)],
-            image[base + (t - nx - 1)],
-            image[north],
-        );
+    if p.last_column {
+        return last_column_sum(n.west, n.north_west, n.north);
     }
-    if x == 0 {
-        return first_column_sum(image[north], image[base + (t - nx + 1)]);
+    if p.first_column {
+        return first_column_sum(n.north, n.north_east);
     }
-    inside_sum(
-        image[base + (t - 1)],
-        image[base + (t - nx - 1)],
-        image[north],
-        image[base + (t - nx + 1)],
-    )
+    inside_sum(n.west, n.north_west, n.north, n.north_east)
 }
 
 // Four times a sample less the local sum.
@@ -76,33 +85,67 @@ fn difference(sample: i32, sum: i64) -> i32
     (4 * (sample as i64) - sum) as i32
 }
 
-// The central difference at place t of the band whose samples begin at base.
-fn central(image: &[i32], base: usize, t: usize, x: usize, nx: usize, column: bool) -> i32
-    requires { ⌜ Window (now image) base t x nx × Narrow nx column × Each Sample (now image) ⌝ }
-    ensures { λ r. ⌜ r ≡ centralAt nx column (bandFrom (now (image .entry)) base) t ⌝ }
+// The directional differences of a place.
+pub fn directional(p: Position, n: Neighbours, sum: i64) -> Directions
+    requires { ⌜ Around 65535 (neighboursOf n) × (natAbs sum ≤ 2 ^ 18) ⌝ }
+    ensures { λ r. ⌜ directionsOf r ≡ directional (positionOf p) (neighboursOf n) sum ⌝ }
 {
-    let sum = local_sum(image, base, t, x, nx, column);
-    difference(image[base + t], sum)
+    if p.first_row {
+        return Directions {
+            north: 0,
+            west: 0,
+            north_west: 0,
+        };
+    }
+    let north = difference(n.north, sum);
+    if p.first_column {
+        return Directions {
+            north,
+            west: north,
+            north_west: north,
+        };
+    }
+    Directions {
+        north,
+        west: difference(n.west, sum),
+        north_west: difference(n.north_west, sum),
+    }
+}
+
+// The central difference of the sample at `at` of its row, with the sample above it at `north`.
+pub fn central(
+    above: &[i32],
+    north: usize,
+    here: &[i32],
+    at: usize,
+    position: Position,
+    column: bool,
+) -> i32
+    requires { ⌜ Centre (now above) north (now here) at (positionOf position) ⌝ }
+    ensures { λ r. ⌜ r ≡ centre column (now (above .entry)) north (now (here .entry)) at (positionOf position) ⌝ }
+{
+    let around = fetch(above, north, here, at, position);
+    let sum = local_sum(column, position, around);
+    difference(here[at], sum)
+}
+
+// A number less another, or 0.
+fn less(one: usize, other: usize) -> usize
+    ensures { λ r. ⌜ r ≡ one - other ⌝ }
+{
+    if one < other { 0 } else { one - other }
 }
 
 // The central differences of the bands before band z, as many as us has, nearest first.
-fn centrals(
-    image: &[i32],
-    us: &mut [i32],
-    z: usize,
-    area: usize,
-    t: usize,
-    x: usize,
-    nx: usize,
-    column: bool,
-)
-    requires { ⌜ Below (now image) (length (now us)) z area t x nx column ⌝ }
-    ensures { λ r. ⌜ now (us .exit) ≡ centralsAt nx column (bandsOf area (now (image .entry))) (length (now (us .entry))) z t ⌝ }
+fn centrals(image: &[i32], us: &mut [i32], grid: Grid, z: usize, t: usize, position: Position)
+    requires { ⌜ Below (now image) (length (now us)) grid z t (positionOf position) ⌝ }
+    ensures { λ r. ⌜ now (us .exit) ≡ centralsAt (grid .nx) (grid .column) (bandsOf (grid .area) (now (image .entry))) (length (now (us .entry))) z t ⌝ }
 {
+    let up = less(t, grid.nx);
     let mut i = 0;
     while i < us.len() {
-        let base = (z - 1 - i) * area;
-        us[i] = central(image, base, t, x, nx, column);
+        let base = (z - 1 - i) * grid.area;
+        us[i] = central(image, base + up, image, base + t, position, grid.column);
         i += 1;
     }
 }
@@ -115,25 +158,6 @@ fn put_three(us: &mut [i32], first: i32, second: i32, third: i32)
     us[0] = first;
     us[1] = second;
     us[2] = third;
-}
-
-// The directional differences at place t: north, west, north-west.
-fn directional(image: &[i32], us: &mut [i32], base: usize, t: usize, x: usize, nx: usize, sum: i64)
-    requires { ⌜ Window (now image) base t x nx × Each Sample (now image) × (natAbs sum ≤ 2 ^ 18) × (length (now us) ≡ 3) ⌝ }
-    ensures { λ r. ⌜ now (us .exit) ≡ directional (positionAt nx t) (neighboursAt nx (bandFrom (now (image .entry)) base) t) sum ⌝ }
-{
-    if t < nx {
-        put_three(us, 0, 0, 0);
-    } else {
-        let north = difference(image[base + (t - nx)], sum);
-        if x == 0 {
-            put_three(us, north, north, north);
-        } else {
-            let west = difference(image[base + (t - 1)], sum);
-            let corner = difference(image[base + (t - nx - 1)], sum);
-            put_three(us, north, west, corner);
-        }
-    }
 }
 
 // The smaller of two numbers.
@@ -150,17 +174,21 @@ pub fn differences(s: Settings, image: &[i32], us: &mut [i32], z: usize, t: usiz
 {
     let nx = s.image.nx as usize;
     let area = nx * (s.image.ny as usize);
-    let base = z * area;
     let column = s.predictor.column;
+    let grid = Grid { nx, area, column };
+    let position = position_at(t, x, nx);
+    let base = z * area;
+    let around = fetch(image, base + less(t, nx), image, base + t, position);
+    let sum = local_sum(column, position, around);
     let behind = least(z, s.predictor.bands as usize);
-    let sum = local_sum(image, base, t, x, nx, column);
     let reduced = s.predictor.reduced;
     if reduced {
-        centrals(image, &mut us[..behind], z, area, t, x, nx, column);
+        centrals(image, &mut us[..behind], grid, z, t, position);
         return sum;
     }
-    directional(image, &mut us[..3], base, t, x, nx, sum);
+    let d = directional(position, around, sum);
+    put_three(&mut us[..3], d.north, d.west, d.north_west);
     let end = 3 + behind;
-    centrals(image, &mut us[3..end], z, area, t, x, nx, column);
+    centrals(image, &mut us[3..end], grid, z, t, position);
     sum
 }

@@ -1,55 +1,69 @@
--- `local_sums::sums::central` meets its contract: the sum of small samples is small, so that the difference fits.
+-- The sum of small samples is small, so that the difference fits.
 use borrow.Author.Needs.{needs}
-use mathlib.Core.Path.{_∙_}
-use Prim.Native.Nat.{_+_}
+use mathlib.Core.Path.{_≡_, _∙_, ap}
+use lib.IntN.{ℤ, pos}
+use lib.ListN.{getD}
 use mir.Syntax.{w32, w64}
 use mir.Facts.{toZ-ofZ}
 use Rattle.integers.specs.Laws.{ok}
-use Rattle.predictor.specs.Asks.{bandFrom}
-use Rattle.local_sums.proofs.SumCases.{sum-small, central-is}
+use Rattle.predictor.specs.LocalSum.{Neighbours, localSum}
+use Rattle.predictor.specs.Differences.{difference}
+use Rattle.local_sums.specs.Fetch.{positionOf, fetched}
+use Rattle.local_sums.proofs.Fetches.{fetched-small, sum-small}
 use Rattle.local_sums.proofs.sums.central.Statement.{statement}
 use Rattle.local_sums.proofs.sums.central.Tie as tie
+
+abbrev around : tie.Start → Neighbours
+around s = let a = s .args in fetched (a .above .now) (a .north) (a .here .now) (a .at) (positionOf (a .position))
+
+sum-is : (c : tie.After-local-sum)
+    → c .local-sum .result ≡ localSum (c .before .before .args .column) (positionOf (c .before .before .args .position)) (around (c .before .before))
+sum-is c =
+    let a = c .before .before .args in
+    c .local-sum .ensures ∙ ap (λ (n : Neighbours). localSum (a .column) (positionOf (a .position)) n) (c .before .fetch .ensures)
+
+fetch-requires : tie.Need-fetch-requires
+fetch-requires c κs =
+    c .pre .around
 
 local-sum-requires : tie.Need-local-sum-requires
 local-sum-requires c κs = search needs
 
-add-difference : tie.Need-add-difference
-add-difference c = search needs
-
 mul-difference : tie.Need-mul-difference
-mul-difference c = search needs
+mul-difference c =
+    let h = c .before .before .pre .inside in search needs
 
 shared-slice-copy-out-difference : tie.Need-shared-slice-copy-out-difference
-shared-slice-copy-out-difference c = search needs
+shared-slice-copy-out-difference c =
+    c .before .before .pre .inside
 
 difference-requires : tie.Need-difference-requires
 difference-requires c κs =
-    let s = c .before .before in
+    let s = c .before .before .before in
     let a = s .args in
-    let b = bandFrom (a .image .now) (a .base) in
+    let q = s .pre in
+    let p = positionOf (a .position) in
     let r = c .before .local-sum in
-    let here = ok w32 (b (a .t)) (c .difference-arg .given) in
-    let small = s .pre .2 in
-    simp (toZ-ofZ, here, ok w64 (r .result) (r .ok))
-    (small .at (a .base + a .t), rw (r .ensures) (sum-small (a .nx) (a .column) b (a .t) (λ i. small .at (a .base + i))))
+    let here = ok w32 (getD (a .here .now) (a .at) (pos 0)) (c .difference-arg .given) in
+    let small = sum-small (a .column) p (around s) (fetched-small (a .north) (a .at) p (q .above-small) (q .here-small)) in
+    simp (toZ-ofZ, here, ok w64 (r .result) (r .ok)) (q .here-small .at (a .at), rw (sum-is (c .before)) small)
 
 returns : tie.Need-returns
 returns c =
-    let s = c .before .before .before in
-    let a = s .args in
-    let b = bandFrom (a .image .now) (a .base) in
+    let a = c .before .before .before .before .args in
+    let sample = getD (a .here .now) (a .at) (pos 0) in
     let r = c .before .before .local-sum in
     let d = c .difference in
-    let here = ok w32 (b (a .t)) (c .before .difference-arg .given) in
+    let here = ok w32 sample (c .before .difference-arg .given) in
     let e = simp (toZ-ofZ, here, ok w64 (r .result) (r .ok)) at (d .ensures) in
-    toZ-ofZ (ok w32 (d .result) (d .ok)) ∙ central-is (a .nx) (a .column) b (a .t) (r .result) (d .result) (r .ensures) e
+    toZ-ofZ (ok w32 (d .result) (d .ok)) ∙ e ∙ ap (λ (s : ℤ). difference sample s) (sum-is (c .before .before))
 
 pub central-spec : {M : Type 1} → statement M
 central-spec =
     tie.close
     (tie.spec
+    fetch-requires
     local-sum-requires
-    add-difference
     mul-difference
     shared-slice-copy-out-difference
     difference-requires

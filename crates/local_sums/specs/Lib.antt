@@ -1,0 +1,3 @@
+-- What the functions ask and answer.
+pub mod Fetch
+pub mod Asks
