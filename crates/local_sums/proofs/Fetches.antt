@@ -16,7 +16,7 @@ use Rattle.predictor.specs.Each.{Each}
 use Rattle.predictor.specs.SizeLaws.{Around, localSum-size}
 use Rattle.predictor.specs.Asks.{Sample, bandFrom}
 use Rattle.local_sums.specs.Fetch.{Fetching, fetched}
-use Rattle.local_sums.specs.Asks.{Window, Narrow, centre}
+use Rattle.local_sums.specs.Asks.{Window, Narrow, centre, inside}
 
 -- ---- case by case, as the branches of the code tell the cases apart
 
@@ -68,7 +68,7 @@ module _ (p : Position) (n : Neighbours) (sum : ℤ) where
 
 -- ---- neighbours that are alike where a position has them
 
-abbrev place : Bool → Bool → Bool → Position
+abbrev pub place : Bool → Bool → Bool → Position
 place top left right = record { firstRow = top; firstColumn = left; lastColumn = right }
 
 record Alike (p : Position) (n n′ : Neighbours) : Type 0 where
@@ -109,6 +109,13 @@ past {n} {t} h p = go (eq-or-lt-of-le h)
 either : (a b : Bool) → (a || b) ≡ false → (a ≡ false) × (b ≡ false)
 either true b e = absurd (let z : _≡_ {A = ℕ} 0 1 = cc in omega arith)
 either false b e = (refl, e)
+
+pub off-edges : (top left right column : Bool) → (((top || left) || right) || column) ≡ false → (place top left right ≡ inside) × (column ≡ false)
+off-edges top left right column e =
+    let (a, d) = either ((top || left) || right) column e in
+    let (b, c) = either (top || left) right a in
+    let (t, l) = either top left b in
+    ((λ i. record { firstRow = t i; firstColumn = l i; lastColumn = c i }), d)
 
 module _ {samples : List ℤ} {base t nx : ℕ} (w : Window samples base t nx) where
   whole : Alike (positionAt nx t) (fetched samples (base + (t - nx)) samples (base + t) (positionAt nx t)) (neighboursAt nx (bandFrom samples base) t)

@@ -1,6 +1,6 @@
 -- What the functions of sums and differences ask of their callers.
 use mathlib.Core.Path.{_≡_}
-use mathlib.Core.Bool.{Bool, true}
+use mathlib.Core.Bool.{Bool, true, false}
 use mathlib.Core.List.{List, [], _∷_}
 use Prim.Native.Nat.{ℕ, _+_, _*_, _^_, _<_, _≤_}
 use lib.IntN.{ℤ, pos}
@@ -38,6 +38,10 @@ pub record Centre (above : List ℤ) (n : ℕ) (here : List ℤ) (i : ℕ) (p : 
 -- the difference of a sample and the sum of its neighbours, off two rows of samples
 abbrev pub centre : Bool → List ℤ → ℕ → List ℤ → ℕ → sums.Position → ℤ
 centre column above n here i p = difference (getD here i (pos 0)) (sums.localSum column p (fetched above n here i p))
+
+-- off the edges
+abbrev pub inside : sums.Position
+inside = record { firstRow = false; firstColumn = false; lastColumn = false }
 
 -- place t > 0 of the n bands before band z
 pub record Below (samples : List ℤ) (n : ℕ) (g : Grid) (z t : ℕ) (p : sums.Position) : Type 0 where

@@ -1,5 +1,6 @@
 // Local sums and differences (4.4, 4.5).
 ghost use mathlib.Core.Path.{_≡_};
+ghost use mathlib.Core.Bool.{false};
 ghost use mathlib.Core.List.{[], _∷_};
 ghost use Prim.Native.Nat.{_-_, _^_, _≤_, min};
 ghost use lib.ListN.{length};
@@ -9,7 +10,7 @@ ghost use Rattle.predictor.specs.Differences.{difference, directional, centrals
 ghost use Rattle.predictor.specs.SizeLaws.{Around};
 ghost use Rattle.predictor.specs.Asks.{Sample, Differing, Differences, bandsOf};
 ghost use Rattle.local_sums.specs.Fetch.{neighboursOf, positionOf};
-ghost use Rattle.local_sums.specs.Asks.{Centre, centre, Below, directionsOf};
+ghost use Rattle.local_sums.specs.Asks.{Centre, centre, inside, Below, directionsOf};
 use super::neighbours::Neighbours;
 use super::neighbours::Position;
 use super::neighbours::fetch;
@@ -112,7 +113,22 @@ pub fn directional(p: Position, n: Neighbours, sum: i64) -> Directions
     }
 }
 
+// The central difference off the edges, where all neighbours are there and count alike.
+fn inside_central(above: &[i32], north: usize, here: &[i32], at: usize) -> i32
+    requires { ⌜ Centre (now above) north (now here) at inside ⌝ }
+    ensures { λ r. ⌜ r ≡ centre false (now (above .entry)) north (now (here .entry)) at inside ⌝ }
+{
+    let sum = inside_sum(
+        here[at - 1],
+        above[north - 1],
+        above[north],
+        above[north + 1],
+    );
+    difference(here[at], sum)
+}
+
 // The central difference of the sample at `at` of its row, with the sample above it at `north`.
+// Most samples lie off the edges: told apart first, they leave the loop over bands no other test.
 pub fn central(
     above: &[i32],
     north: usize,
@@ -124,9 +140,12 @@ pub fn central(
     requires { ⌜ Centre (now above) north (now here) at (positionOf position) ⌝ }
     ensures { λ r. ⌜ r ≡ centre column (now (above .entry)) north (now (here .entry)) at (positionOf position) ⌝ }
 {
-    let around = fetch(above, north, here, at, position);
-    let sum = local_sum(column, position, around);
-    difference(here[at], sum)
+    if position.first_row | position.first_column | position.last_column | column {
+        let around = fetch(above, north, here, at, position);
+        let sum = local_sum(column, position, around);
+        return difference(here[at], sum);
+    }
+    inside_central(above, north, here, at)
 }
 
 // A number less another, or 0.
