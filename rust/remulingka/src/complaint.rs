@@ -82,8 +82,12 @@ impl Settings {
             })
     }
 
-    /// Says which table value that legal settings use is illegal, if one is.
+    /// Says which table value that the settings use is illegal, if one is. Of
+    /// illegal settings it says nothing: [`Settings::complaint`] does.
     pub fn table_complaint(&self, tables: &Tables) -> Option<String> {
+        if self.complaint().is_some() {
+            return None;
+        }
         (0..tables.bands().min(self.bands as usize)).find_map(|band| {
             self.weight_table_complaint(tables, band)
                 .or_else(|| match self.initial_k {
@@ -96,6 +100,8 @@ impl Settings {
         })
     }
 
+    /// The same for the weights of one band; only for legal settings, whose counts
+    /// are in range.
     fn weight_table_complaint(&self, tables: &Tables, band: usize) -> Option<String> {
         let Weights::Table { resolution } = self.weights else {
             return None;
@@ -103,8 +109,8 @@ impl Settings {
         let half = 1 << (resolution - 1);
         let directional = if self.reduced_mode { 0 } else { 3 };
         let used = directional + band.min(self.prediction_bands as usize);
-        let weights = &tables.weights(band)[..used];
-        weights.iter().enumerate().find_map(|(component, &weight)| {
+        let weights = tables.weights(band).iter().take(used);
+        weights.enumerate().find_map(|(component, &weight)| {
             let name = format!("weight {component} of band {band}");
             outside(&name, weight, -half, half - 1)
         })

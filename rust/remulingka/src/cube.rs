@@ -1,10 +1,10 @@
 //! The four calls with owned memory.
 
 use crate::boundary;
+use crate::limits::{MOST_BANDS, MOST_SAMPLES, SCRATCH_SLOTS, SETTING_SLOTS, TABLE_SLOTS};
 use crate::refusal::Refusal;
 use crate::settings::Settings;
 use crate::tables::Tables;
-use crate::{MOST_BANDS, MOST_SAMPLES, SCRATCH_SLOTS, SETTING_SLOTS, TABLE_SLOTS};
 
 /// An image that was opened.
 #[derive(Clone, Debug, PartialEq, Eq)]
@@ -26,7 +26,9 @@ pub fn pack(
 ) -> Result<Vec<u8>, Refusal> {
     let zeros = zero_tables(settings, tables);
     let tables = tables.map_or(zeros.as_slice(), Tables::slots);
-    let mut out = vec![0; longest_file(settings, samples)];
+    let longest = longest_file(bands_to_lend(settings), samples.len().min(MOST_SAMPLES));
+    // Zeros that were never touched cost no memory, so the worst case may be lent.
+    let mut out = vec![0; longest];
     let answer = boundary::pack(
         &settings.to_slots(),
         tables,
@@ -102,9 +104,9 @@ fn zero_tables(settings: &Settings, tables: Option<&Tables>) -> Vec<i32> {
     vec![0; TABLE_SLOTS * bands]
 }
 
-/// A length that no file of these settings passes: 19 bytes of header fields, the
-/// tables (18 components of at most 22 bits and half a byte a band), at most
-/// Umax + D = 48 bits a sample, and fill.
-fn longest_file(settings: &Settings, samples: &[i32]) -> usize {
-    32 + 50 * bands_to_lend(settings) + 6 * samples.len().min(MOST_SAMPLES)
+/// A length that no file of so many bands and samples passes: 19 bytes of header
+/// fields, the tables (18 components of at most 22 bits and half a byte a band), at
+/// most Umax + D = 48 bits a sample, and fill.
+pub fn longest_file(bands: usize, samples: usize) -> usize {
+    32 + 50 * bands + 6 * samples
 }

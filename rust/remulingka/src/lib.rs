@@ -16,8 +16,8 @@
 //! ```
 //!
 //! Samples are `i32`, band by band and row by row: sample (z, y, x) lies at
-//! z·Ny·Nx + y·Nx + x. An image has at most 1,048,576 samples in at most 512
-//! bands. [`boundary`] has the calls without owned memory.
+//! z·Ny·Nx + y·Nx + x. An image has at most [`MOST_SAMPLES`] samples in at most
+//! [`MOST_BANDS`] bands. [`boundary`] has the calls without owned memory.
 
 #![deny(unsafe_code)]
 #![warn(missing_docs)]
@@ -25,22 +25,16 @@
 pub mod boundary;
 mod complaint;
 mod cube;
+pub mod limits;
 mod refusal;
 mod settings;
 mod tables;
 
-pub use cube::{length, look, open, pack, Cube};
+pub use cube::{length, longest_file, look, open, pack, Cube};
+pub use limits::{MOST_BANDS, MOST_SAMPLES, SCRATCH_SLOTS, SETTING_SLOTS, TABLE_SLOTS};
 pub use refusal::Refusal;
 pub use settings::{InitialK, Order, Place, Settings, Weights};
 pub use tables::Tables;
 
-/// Slots of the settings list.
-pub const SETTING_SLOTS: usize = 24;
-/// Table slots a band: 18 for weight components, then k'.
-pub const TABLE_SLOTS: usize = 19;
-/// Scratch slots a band.
-pub const SCRATCH_SLOTS: usize = 32;
-/// House limit on the samples of an image.
-pub const MOST_SAMPLES: usize = 1_048_576;
-/// House limit on the bands of an image.
-pub const MOST_BANDS: usize = 512;
+/// The version of this library and of the command line, `MAJOR.MINOR.PATCH`.
+pub const VERSION: &str = env!("CARGO_PKG_VERSION");

@@ -1,21 +1,13 @@
 //! The command line.
 
-#![forbid(unsafe_code)]
+#![deny(unsafe_code)]
 
 mod program;
 
+use std::ffi::OsString;
 use std::process::ExitCode;
 
 fn main() -> ExitCode {
-    let words: Vec<String> = std::env::args_os()
-        .skip(1)
-        .map(|word| word.to_string_lossy().into_owned())
-        .collect();
-    match program::run(&words) {
-        Ok(()) => ExitCode::SUCCESS,
-        Err(failure) => {
-            eprintln!("remulingka: {failure}");
-            ExitCode::from(1)
-        }
-    }
+    let words: Vec<OsString> = std::env::args_os().skip(1).collect();
+    ExitCode::from(program::run(&words))
 }

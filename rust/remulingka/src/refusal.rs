@@ -3,6 +3,7 @@
 use std::fmt;
 
 use crate::boundary::Answer;
+use crate::limits::{house_limits, SCRATCH_SLOTS, TABLE_SLOTS};
 
 /// Why a call was refused. The cases stand in the order of their numbers.
 #[derive(Clone, Copy, Debug, PartialEq, Eq)]
@@ -18,7 +19,8 @@ pub enum Refusal {
     WrongCount,
     /// 4: the image is larger than the house takes.
     HouseLimit,
-    /// 5: scratch under 32 slots a band, or the table area under 19.
+    /// 5: scratch under [`SCRATCH_SLOTS`] a band, or the table area under
+    /// [`TABLE_SLOTS`].
     ShortScratchOrTables,
     /// 6: the file is longer than the output.
     ShortOutput {
@@ -46,6 +48,21 @@ pub enum Refusal {
     },
     /// 12: the file was packed with the block-adaptive coder.
     OtherCoder,
+    /// 13: a file of no bytes, or one of too many blocks for a card's strip.
+    UnfitForCard,
+    /// 14: a row after the last, or an end before it or a second time.
+    OutOfTurn,
+    /// 15: the second is not above those on the card.
+    SecondDoesNotRise,
+    /// 16: the file omits a table, and none was lent.
+    NoTableLent,
+    /// 17: a band's calibration is bad.
+    BadCalibration {
+        /// The first such band.
+        band: u64,
+    },
+    /// 18: the card has no serial left.
+    NoSerialLeft,
     /// A number that is not in the list: this crate and the archive do not match.
     Unknown {
         /// The number.
@@ -73,11 +90,17 @@ impl Refusal {
             10 => Refusal::ForeignCodeword { rank: value },
             11 => Refusal::AfterTheEnd { count: value },
             12 => Refusal::OtherCoder,
+            13 => Refusal::UnfitForCard,
+            14 => Refusal::OutOfTurn,
+            15 => Refusal::SecondDoesNotRise,
+            16 => Refusal::NoTableLent,
+            17 => Refusal::BadCalibration { band: value },
+            18 => Refusal::NoSerialLeft,
             number => Refusal::Unknown { number, value },
         })
     }
 
-    /// The number in the list, 1 to 12.
+    /// The number in the list, 1 to 18.
     pub fn number(self) -> u8 {
         match self {
             Refusal::IllegalSetting => 1,
@@ -92,23 +115,31 @@ impl Refusal {
             Refusal::ForeignCodeword { .. } => 10,
             Refusal::AfterTheEnd { .. } => 11,
             Refusal::OtherCoder => 12,
+            Refusal::UnfitForCard => 13,
+            Refusal::OutOfTurn => 14,
+            Refusal::SecondDoesNotRise => 15,
+            Refusal::NoTableLent => 16,
+            Refusal::BadCalibration { .. } => 17,
+            Refusal::NoSerialLeft => 18,
             Refusal::Unknown { number, .. } => number,
         }
     }
 
     /// What the caller can do about it.
-    pub fn advice(self) -> &'static str {
-        match self {
+    pub fn advice(self) -> String {
+        let fixed = match self {
             Refusal::IllegalSetting => "set it within its range",
             Refusal::SampleOutOfRange { .. } => {
                 "raise the depth, or say whether samples are signed; or correct the sample"
             }
             Refusal::WrongCount => "lend columns times rows times bands samples",
             Refusal::HouseLimit => {
-                "pack the image in parts of at most 1,048,576 samples and 512 bands"
+                return format!("pack the image in parts of at most {}", house_limits())
             }
             Refusal::ShortScratchOrTables => {
-                "lend 32 scratch slots and 19 table slots for each band"
+                return format!(
+                    "lend {SCRATCH_SLOTS} scratch slots and {TABLE_SLOTS} table slots for each band"
+                )
             }
             Refusal::ShortOutput { .. } => "lend an output of that length",
             Refusal::HeaderEnds | Refusal::BodyEnds { .. } => {
@@ -125,8 +156,15 @@ impl Refusal {
                  again, or cut what was appended"
             }
             Refusal::OtherCoder => "open it with a program for the block-adaptive coder",
+            Refusal::UnfitForCard => "put a packed file on the card, or cut it into shorter strips",
+            Refusal::OutOfTurn => "give every row once, in order, and then end once",
+            Refusal::SecondDoesNotRise => "set the clock, and append with a later second",
+            Refusal::NoTableLent => "lend the tables that the packer had",
+            Refusal::BadCalibration { .. } => "correct the calibration of that band",
+            Refusal::NoSerialLeft => "begin a new card",
             Refusal::Unknown { .. } => "build this program again, with the archive of its edition",
-        }
+        };
+        fixed.to_string()
     }
 }
 
@@ -161,6 +199,18 @@ impl fmt::Display for Refusal {
                 "there are bytes or set bits behind the last of {count} values"
             ),
             Refusal::OtherCoder => write!(to, "the file has the block-adaptive coder"),
+            Refusal::UnfitForCard => {
+                write!(to, "the file has no bytes, or more blocks than a strip")
+            }
+            Refusal::OutOfTurn => {
+                write!(to, "a row after the last, or an end before it or twice")
+            }
+            Refusal::SecondDoesNotRise => write!(to, "the second is not above the card's last"),
+            Refusal::NoTableLent => write!(to, "the file omits a table and none was lent"),
+            Refusal::BadCalibration { band } => {
+                write!(to, "the calibration of band {band} is bad")
+            }
+            Refusal::NoSerialLeft => write!(to, "no serial is left on the card"),
             Refusal::Unknown { value, .. } => write!(to, "unknown, with value {value}"),
         }
     }

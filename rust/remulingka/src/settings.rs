@@ -1,6 +1,6 @@
 //! The settings by their names.
 
-use crate::SETTING_SLOTS;
+use crate::limits::SETTING_SLOTS;
 
 /// The order in which samples are coded. It changes neither the samples nor, but
 /// for the fill, the file's length.
@@ -47,7 +47,7 @@ pub struct Settings {
     pub columns: i32,
     /// Ny, 1 to 65,536.
     pub rows: i32,
-    /// Nz, 1 to 512 (the house's limit).
+    /// Nz, 1 to [`MOST_BANDS`](crate::MOST_BANDS).
     pub bands: i32,
     /// Whether samples are signed.
     pub signed: bool,

@@ -1,11 +1,11 @@
 //! Table values: initial weights and k', each band's own.
 
-use crate::TABLE_SLOTS;
+use crate::limits::TABLE_SLOTS;
 
 /// The slot of k' among a band's slots.
 const K_SLOT: usize = TABLE_SLOTS - 1;
 
-/// The table values of an image, 19 slots a band: 18 for weight components, from
+/// The table values of an image, [`TABLE_SLOTS`] a band: those for weight components, from
 /// the first, and then k'. Slots that the settings do not use are ignored when
 /// packing, and zero after opening.
 #[derive(Clone, Debug, PartialEq, Eq)]
@@ -21,7 +21,7 @@ impl Tables {
         }
     }
 
-    /// Tables from their slots; nothing unless these are 19 for each band.
+    /// Tables from their slots; nothing unless these are [`TABLE_SLOTS`] for each band.
     pub fn from_slots(slots: Vec<i32>) -> Option<Tables> {
         slots
             .len()
@@ -44,7 +44,7 @@ impl Tables {
         self.slots.len() / TABLE_SLOTS
     }
 
-    /// The 18 weight slots of a band.
+    /// The weight slots of a band.
     ///
     /// # Panics
     /// If there is no such band.
@@ -52,7 +52,7 @@ impl Tables {
         &self.slots[TABLE_SLOTS * band..][..K_SLOT]
     }
 
-    /// The 18 weight slots of a band, to set them.
+    /// The weight slots of a band, to set them.
     ///
     /// # Panics
     /// If there is no such band.

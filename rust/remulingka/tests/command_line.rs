@@ -1,143 +1,27 @@
-//! The command line end to end, on ENVI images of every layout. The images are
-//! written here, by code of its own, so that a mistake of the program's reader is
-//! not made twice.
+//! The command line end to end, on ENVI images of every layout.
+
+mod common;
 
 use std::fs;
-use std::path::{Path, PathBuf};
-use std::process::{Command, Output};
 
-const COLUMNS: usize = 5;
-const ROWS: usize = 4;
-const BANDS: usize = 3;
+use common::{folder, remulingka, sample, Layout, BANDS, FILE, REFUSED, USAGE, USUAL};
 
-/// A fresh folder for one test.
-fn folder(name: &str) -> PathBuf {
-    let folder = Path::new(env!("CARGO_TARGET_TMPDIR")).join(name);
-    let _ = fs::remove_dir_all(&folder);
-    fs::create_dir_all(&folder).unwrap();
-    folder
-}
-
-/// Runs the program in a folder.
-fn remulingka(folder: &Path, words: &[&str]) -> Output {
-    Command::new(env!("CARGO_BIN_EXE_remulingka"))
-        .args(words)
-        .current_dir(folder)
-        .output()
-        .unwrap()
-}
-
-/// Runs the program, which must succeed and say nothing on the error output.
-fn succeeds(folder: &Path, words: &[&str]) -> String {
-    let output = remulingka(folder, words);
-    let errors = String::from_utf8_lossy(&output.stderr);
-    assert!(output.status.success(), "{words:?}: {errors}");
-    assert_eq!(errors, "", "{words:?}");
-    String::from_utf8(output.stdout).unwrap()
-}
-
-/// Runs the program, which must end with status 1 and leave the folder's files as
-/// they were, and gives its message.
-fn fails(folder: &Path, words: &[&str]) -> String {
-    let before = contents(folder);
-    let output = remulingka(folder, words);
-    assert_eq!(output.status.code(), Some(1), "{words:?}");
-    assert_eq!(contents(folder), before, "{words:?} changed the folder");
-    let message = String::from_utf8(output.stderr).unwrap();
-    assert!(message.starts_with("remulingka: "), "{message}");
-    message
-}
-
-/// All names in a folder, hidden ones too, with the files' bytes.
-fn contents(folder: &Path) -> Vec<(String, Vec<u8>)> {
-    let entries = fs::read_dir(folder).unwrap().map(|entry| entry.unwrap());
-    let mut contents: Vec<(String, Vec<u8>)> = entries
-        .map(|entry| {
-            let name = entry.file_name().into_string().unwrap();
-            (name, fs::read(entry.path()).unwrap_or_default())
-        })
-        .collect();
-    contents.sort();
-    contents
-}
-
-/// One way to lay an image out.
-#[derive(Clone, Copy, Debug)]
-struct Layout {
-    data_type: u32,
-    interleave: &'static str,
-    byte_order: u32,
-    offset: usize,
-}
-
-const USUAL: Layout = Layout {
-    data_type: 12,
-    interleave: "bsq",
-    byte_order: 0,
-    offset: 0,
-};
-
-impl Layout {
-    fn header(&self) -> String {
-        format!(
-            "ENVI\ndescription = {{\n  a test = not a field }}\nsamples = {COLUMNS}\n\
-             lines   = {ROWS}\nbands = {BANDS}\nheader offset = {}\nfile type = ENVI Standard\n\
-             data type = {}\nInterleave = {}\nbyte order = {}\nwavelength = {{\n 1.0,\n 2.0, 3.0}}\n",
-            self.offset, self.data_type, self.interleave, self.byte_order
-        )
+/// The words with `--force` where a command writes: these tests write to one name
+/// after another time, and what happens without it has tests of its own.
+fn forced<'a>(words: &[&'a str]) -> Vec<&'a str> {
+    let mut words = words.to_vec();
+    if ["pack", "open", "picture"].contains(words.first().unwrap_or(&"")) {
+        words.insert(1, "--force");
     }
-
-    fn sample_bytes(&self, sample: i32) -> Vec<u8> {
-        let big = self.byte_order == 1;
-        match (self.data_type, big) {
-            (1, _) => vec![sample as u8],
-            (2, true) => (sample as i16).to_be_bytes().to_vec(),
-            (2, false) => (sample as i16).to_le_bytes().to_vec(),
-            (12, true) => (sample as u16).to_be_bytes().to_vec(),
-            (12, false) => (sample as u16).to_le_bytes().to_vec(),
-            (3, true) => sample.to_be_bytes().to_vec(),
-            (3, false) => sample.to_le_bytes().to_vec(),
-            (13, true) => (sample as u32).to_be_bytes().to_vec(),
-            (13, false) => (sample as u32).to_le_bytes().to_vec(),
-            _ => panic!("no such type"),
-        }
-    }
-
-    /// The data of samples given by band, row and column; without the offset.
-    fn data(&self, sample: impl Fn(usize, usize, usize) -> i32) -> Vec<u8> {
-        let mut data = Vec::new();
-        let sizes = match self.interleave {
-            "bsq" => [BANDS, ROWS, COLUMNS],
-            "bil" => [ROWS, BANDS, COLUMNS],
-            _ => [ROWS, COLUMNS, BANDS],
-        };
-        for first in 0..sizes[0] {
-            for second in 0..sizes[1] {
-                for third in 0..sizes[2] {
-                    let value = match self.interleave {
-                        "bsq" => sample(first, second, third),
-                        "bil" => sample(second, first, third),
-                        _ => sample(third, first, second),
-                    };
-                    data.extend(self.sample_bytes(value));
-                }
-            }
-        }
-        data
-    }
-
-    /// Writes `name`.hdr and `name`.img.
-    fn write(&self, folder: &Path, name: &str, sample: impl Fn(usize, usize, usize) -> i32) {
-        fs::write(folder.join(format!("{name}.hdr")), self.header()).unwrap();
-        let data = [vec![0xEE; self.offset], self.data(sample)].concat();
-        fs::write(folder.join(format!("{name}.img")), data).unwrap();
-    }
+    words
 }
 
-/// Samples that differ at every place and, where signed, lie on both sides of 0.
-fn sample(is_signed: bool) -> impl Fn(usize, usize, usize) -> i32 {
-    let start = if is_signed { -37 } else { 0 };
-    move |band, row, column| start + (60 * band + 13 * row + 2 * column) as i32
+fn succeeds(folder: &std::path::Path, words: &[&str]) -> String {
+    common::succeeds(folder, &forced(words))
+}
+
+fn fails(folder: &std::path::Path, status: i32, words: &[&str]) -> String {
+    common::fails(folder, status, &forced(words))
 }
 
 #[test]
@@ -201,7 +85,7 @@ fn open_like_another_header_keeps_its_fields() {
         header.contains("wavelength = {\n 1.0,\n 2.0, 3.0}"),
         "{header}"
     );
-    assert!(header.contains("interleave = bip"), "{header}");
+    assert!(header.contains("Interleave = bip"), "{header}");
     assert_eq!(header.matches("file type").count(), 1, "{header}");
 }
 
@@ -217,7 +101,7 @@ fn the_usual_data_type_is_the_smallest() {
         let layout = Layout { data_type, ..USUAL };
         layout.write(&folder, "image", sample(is_signed));
         succeeds(&folder, &["pack", "image.hdr", "f", "--depth", depth]);
-        succeeds(&folder, &["open", "f", "again.hdr"]);
+        succeeds(&folder, &["open", "f", "again.hdr", "--no-stored"]);
         let header = fs::read_to_string(folder.join("again.hdr")).unwrap();
         assert!(
             header.contains(&format!("data type = {expected}\n")),
@@ -250,7 +134,11 @@ fn depth_and_sign_by_option() {
         ..USUAL
     }
     .write(&folder, "image", sample(true));
-    let message = fails(&folder, &["pack", "image.hdr", "f", "--signed", "no"]);
+    let message = fails(
+        &folder,
+        REFUSED,
+        &["pack", "image.hdr", "f", "--signed", "no"],
+    );
     assert!(message.contains("refusal 2"), "{message}");
     assert!(
         message.contains("-37 at band 0, row 0, column 0"),
@@ -277,7 +165,7 @@ fn windows_are_packed_as_images_of_their_own() {
             &folder,
             &[&["pack", "image.hdr", "f"], &window[..]].concat(),
         );
-        succeeds(&folder, &["open", "f", "part.hdr"]);
+        succeeds(&folder, &["open", "f", "part.hdr", "--interleave", "bsq"]);
         let data = fs::read(folder.join("part.img")).unwrap();
         let mut expected = Vec::new();
         for band in 1..3 {
@@ -289,8 +177,11 @@ fn windows_are_packed_as_images_of_their_own() {
         }
         assert_eq!(data, expected);
     }
-    let message = fails(&folder, &["pack", "image.hdr", "g", "--rows", "2:5"]);
-    assert!(message.contains("--rows: 2:5"), "{message}");
+    let message = fails(&folder, USAGE, &["pack", "image.hdr", "g", "--rows", "2:5"]);
+    assert!(
+        message.contains("--rows 2:5: there are only 4"),
+        "{message}"
+    );
 }
 
 #[test]
@@ -325,12 +216,14 @@ fn settings_by_option_by_file_and_from_a_file() {
     fs::write(folder.join("bad.txt"), "# a remark\nword-size 4\n").unwrap();
     let message = fails(
         &folder,
+        USAGE,
         &["pack", "image.hdr", "h", "--settings", "bad.txt"],
     );
     assert!(message.contains("bad.txt, line 2"), "{message}");
     fs::write(folder.join("bad.txt"), "wordsize = 4\n").unwrap();
     let message = fails(
         &folder,
+        USAGE,
         &["pack", "image.hdr", "h", "--settings", "bad.txt"],
     );
     assert!(message.contains("no setting wordsize"), "{message}");
@@ -371,12 +264,12 @@ fn tables_go_in_and_come_out() {
         .map(|line| format!("{line}\n"))
         .collect();
     fs::write(folder.join("tables.txt"), two).unwrap();
-    assert!(fails(&folder, &words).contains("refusal 5"));
+    assert!(fails(&folder, REFUSED, &words).contains("refusal 5"));
     fs::write(folder.join("tables.txt"), text.replace("-2 -1", "-9 -1")).unwrap();
-    let message = fails(&folder, &words);
+    let message = fails(&folder, REFUSED, &words);
     assert!(message.contains("weight 0 of band 0 is -9"), "{message}");
     fs::write(folder.join("tables.txt"), "1 2 3\n").unwrap();
-    assert!(fails(&folder, &words).contains("line 1"));
+    assert!(fails(&folder, REFUSED, &words).contains("line 1"));
 }
 
 #[test]
@@ -406,15 +299,27 @@ fn refusals_of_pack_leave_nothing_behind() {
         (&["--initial-k", "15"], 1, "initial-k is 15"),
         (&["--user-data", "256"], 1, "user-data is 256"),
     ] {
-        let message = fails(&folder, &[&["pack", "image.hdr", "old"], options].concat());
+        let message = fails(
+            &folder,
+            REFUSED,
+            &[&["pack", "image.hdr", "old"], options].concat(),
+        );
         assert!(
             message.contains(&format!("refusal {number}: ")),
             "{message}"
         );
         assert!(message.contains("image.img"), "{message}");
         assert!(message.contains(words), "{message}");
-        fails(&folder, &[&["pack", "image.hdr", "new"], options].concat());
-        fails(&folder, &[&["length", "image.hdr"], options].concat());
+        fails(
+            &folder,
+            REFUSED,
+            &[&["pack", "image.hdr", "new"], options].concat(),
+        );
+        fails(
+            &folder,
+            REFUSED,
+            &[&["length", "image.hdr"], options].concat(),
+        );
     }
 }
 
@@ -424,9 +329,9 @@ fn an_image_over_the_house_limits_is_refused_and_can_be_packed_in_parts() {
     let header = "ENVI\nsamples = 1024\nlines = 1025\nbands = 1\ndata type = 1\n";
     fs::write(folder.join("large.hdr"), header).unwrap();
     fs::write(folder.join("large.dat"), vec![3; 1024 * 1025]).unwrap();
-    let message = fails(&folder, &["pack", "large.hdr", "f"]);
+    let message = fails(&folder, REFUSED, &["pack", "large.hdr", "f"]);
     assert!(message.contains("refusal 4"), "{message}");
-    assert!(message.contains("1049600 samples in 1 bands"), "{message}");
+    assert!(message.contains("1049600 samples in 1 band;"), "{message}");
     assert!(message.contains("--rows"), "{message}");
     succeeds(&folder, &["pack", "large.hdr", "f", "--rows", "0:1024"]);
     succeeds(&folder, &["check", "f"]);
@@ -440,7 +345,11 @@ fn faults_of_images_and_words() {
         let text = USUAL.header();
         assert!(text.contains(from));
         fs::write(folder.join("edited.hdr"), text.replace(from, to)).unwrap();
-        fails(&folder, &["pack", "edited.hdr", "f", "--data", "image.img"])
+        fails(
+            &folder,
+            REFUSED,
+            &["pack", "edited.hdr", "f", "--data", "image.img"],
+        )
     };
     assert!(edited("ENVI\n", "ENVY\n").contains("no ENVI header"));
     assert!(edited("data type = 12", "data type = 4").contains("data type 4"));
@@ -452,19 +361,29 @@ fn faults_of_images_and_words() {
     let sizes = edited("bands = 3", "bands = 99999999999999999999");
     assert!(sizes.contains("bands = 99999999999999999999"), "{sizes}");
     fs::write(folder.join("alone.hdr"), USUAL.header()).unwrap();
-    assert!(fails(&folder, &["pack", "alone.hdr", "f"]).contains("no data was found"));
-    assert!(fails(&folder, &["pack", "none.hdr", "f"]).contains("none.hdr"));
-    assert!(fails(&folder, &["pack", "image.hdr"]).contains("takes IMAGE.hdr and FILE"));
-    assert!(fails(&folder, &["pack", "image.hdr", "f", "--dept", "8"]).contains("--dept"));
-    assert!(fails(&folder, &["pack", "image.hdr", "f", "--depth"]).contains("needs a value"));
-    assert!(fails(&folder, &["pack", "image.hdr", "f", "--mode", "half"]).contains("half"));
-    assert!(fails(&folder, &["pack", "image.hdr", "image.img"]).contains("is an input"));
-    assert!(fails(&folder, &["pack", "image.hdr", "image.hdr"]).contains("is an input"));
-    assert!(fails(&folder, &["pack", "image.hdr", "no/such/folder/f"]).contains("no/such"));
+    assert!(fails(&folder, FILE, &["pack", "alone.hdr", "f"]).contains("no data was found"));
+    assert!(fails(&folder, FILE, &["pack", "none.hdr", "f"]).contains("none.hdr"));
+    assert!(
+        fails(&folder, USAGE, &["pack", "image.hdr"]).contains("takes IMAGE.hdr... FILE|FOLDER")
+    );
+    assert!(fails(&folder, USAGE, &["pack", "image.hdr", "f", "--dept", "8"]).contains("--dept"));
+    assert!(
+        fails(&folder, USAGE, &["pack", "image.hdr", "f", "--depth"]).contains("needs a value")
+    );
+    assert!(fails(
+        &folder,
+        USAGE,
+        &["pack", "image.hdr", "f", "--mode", "half"]
+    )
+    .contains("half"));
+    assert!(fails(&folder, FILE, &["pack", "image.hdr", "image.img"]).contains("is an input"));
+    assert!(fails(&folder, FILE, &["pack", "image.hdr", "image.hdr"]).contains("is an input"));
+    assert!(fails(&folder, FILE, &["pack", "image.hdr", "no/such/folder/f"]).contains("no/such"));
     fs::create_dir(folder.join("sub")).unwrap();
-    assert!(fails(&folder, &["pack", "image.hdr", "sub"]).contains("no ordinary file"));
-    assert!(fails(&folder, &["unpack"]).contains("there is no command unpack"));
-    assert!(fails(&folder, &[]).contains("no command is given"));
+    let words = ["open", "f", "g.hdr", "--data", "sub"];
+    assert!(fails(&folder, FILE, &words).contains("no ordinary file"));
+    assert!(fails(&folder, USAGE, &["unpack"]).contains("there is no command unpack"));
+    assert!(fails(&folder, USAGE, &[]).contains("no command is given"));
 }
 
 #[test]
@@ -479,13 +398,13 @@ fn unsigned_samples_over_31_bits_are_refused() {
         "image",
         |band, _, _| if band == 1 { -1 } else { 5 },
     );
-    let message = fails(&folder, &["pack", "image.hdr", "f"]);
+    let message = fails(&folder, REFUSED, &["pack", "image.hdr", "f"]);
     assert!(message.contains("refusal 2"), "{message}");
     assert!(message.contains("band 1, row 0, column 0"), "{message}");
     layout.write(&folder, "image", |_, _, _| 65_535);
     succeeds(&folder, &["pack", "image.hdr", "f"]);
     layout.write(&folder, "image", |_, _, _| 65_536);
-    fails(&folder, &["pack", "image.hdr", "g"]);
+    fails(&folder, REFUSED, &["pack", "image.hdr", "g"]);
 }
 
 #[test]
@@ -504,24 +423,24 @@ fn damaged_files_are_named_with_what_is_wrong() {
     damage("long", |bytes| bytes.push(0));
     damage("field", |bytes| bytes[7] |= 0x40);
     damage("coder", |bytes| bytes[10] |= 4);
-    assert!(succeeds(&folder, &["check", "whole", "whole"]).contains("2 files, all whole"));
+    assert!(succeeds(&folder, &["check", "whole", "whole"]).contains("2 files, and all open"));
     let names = ["cut", "head", "long", "field", "coder", "gone"];
     for (name, number) in names.iter().zip([9, 7, 11, 8, 12]) {
-        let message = fails(&folder, &["open", name, "out.hdr"]);
+        let message = fails(&folder, REFUSED, &["open", name, "out.hdr"]);
         assert!(
             message.contains(&format!("{name}: refusal {number}: ")),
             "{message}"
         );
-        fails(&folder, &["picture", name, "out.png"]);
+        fails(&folder, REFUSED, &["picture", name, "out.png"]);
     }
     let output = remulingka(&folder, &[&["check", "whole"], &names[..]].concat());
     assert_eq!(output.status.code(), Some(1));
     let text = String::from_utf8(output.stdout).unwrap();
     assert!(
-        text.contains("whole: whole, 5 columns, 4 rows, 3 bands of 16 bits"),
+        text.contains("whole: opens, 5 columns, 4 rows, 3 bands of 16 bits; as it was packed"),
         "{text}"
     );
-    assert_eq!(text.matches("DAMAGED").count(), 5, "{text}");
+    assert_eq!(text.matches("REFUSED").count(), 5, "{text}");
     assert!(text.contains("UNREADABLE gone: "), "{text}");
     // 21 bytes are the header's 19 and 16 bits: the first value and no more.
     assert!(
@@ -531,7 +450,10 @@ fn damaged_files_are_named_with_what_is_wrong() {
         "{text}"
     );
     let errors = String::from_utf8(output.stderr).unwrap();
-    assert!(errors.contains("6 of 7 files"), "{errors}");
+    assert!(
+        errors.contains("5 of 7 files refused or changed, 1 unreadable"),
+        "{errors}"
+    );
 }
 
 #[test]
@@ -539,71 +461,16 @@ fn open_writes_beside_and_never_over_its_input() {
     let folder = folder("beside");
     USUAL.write(&folder, "image", sample(false));
     succeeds(&folder, &["pack", "image.hdr", "cube.img"]);
-    assert!(fails(&folder, &["open", "cube.img", "cube.hdr"]).contains("is an input"));
-    assert!(fails(&folder, &["open", "cube.img", "cube.txt"]).contains(".hdr"));
+    assert!(fails(&folder, FILE, &["open", "cube.img", "cube.hdr"]).contains("is an input"));
+    assert!(fails(&folder, USAGE, &["open", "cube.img", "cube.txt"]).contains(".hdr"));
     let words = ["open", "cube.img", "a.hdr", "--type", "1"];
     USUAL.write(&folder, "image", |_, _, _| 256);
     succeeds(&folder, &["pack", "image.hdr", "cube.img"]);
-    assert!(fails(&folder, &words).contains("does not hold the sample 256"));
+    assert!(fails(&folder, USAGE, &words).contains("does not hold the sample 256"));
     let words = ["open", "cube.img", "a.hdr", "--data", "a.hdr"];
-    assert!(fails(&folder, &words).contains("two outputs"));
+    assert!(fails(&folder, USAGE, &words).contains("two outputs"));
     succeeds(&folder, &["open", "cube.img", "a.hdr", "--data", "b.raw"]);
     assert!(folder.join("b.raw").is_file());
-}
-
-#[test]
-fn a_killed_program_leaves_the_old_file_or_the_new_one() {
-    let folder = folder("killed");
-    // Large enough to be killed in the reading, the packing and the writing.
-    let header = "ENVI\nsamples = 1024\nlines = 256\nbands = 1\ndata type = 1\n";
-    fs::write(folder.join("image.hdr"), header).unwrap();
-    let data: Vec<u8> = (0..1024 * 256_u32)
-        .map(|index| ((index * index) >> 7) as u8)
-        .collect();
-    fs::write(folder.join("image.img"), data).unwrap();
-    succeeds(&folder, &["pack", "image.hdr", "new"]);
-    let new = fs::read(folder.join("new")).unwrap();
-    let mut killed = 0;
-    for turn in 0..40 {
-        fs::write(folder.join("file"), "old").unwrap();
-        let mut child = Command::new(env!("CARGO_BIN_EXE_remulingka"))
-            .args(["pack", "image.hdr", "file"])
-            .current_dir(&folder)
-            .stdout(std::process::Stdio::null())
-            .spawn()
-            .unwrap();
-        std::thread::sleep(std::time::Duration::from_micros(turn * 700));
-        let _ = child.kill();
-        killed += u32::from(!child.wait().unwrap().success());
-        let file = fs::read(folder.join("file")).unwrap();
-        assert!(
-            file == b"old" || file == new,
-            "half a file after {turn} turns"
-        );
-    }
-    assert!(killed > 0, "no turn was short enough");
-}
-
-/// The pixels of a PNG file of stored blocks, with its width, height and colour type.
-fn read_png(file: &[u8]) -> (u32, u32, u8, Vec<u8>) {
-    assert_eq!(&file[..8], b"\x89PNG\r\n\x1a\n");
-    let word = |at: usize| u32::from_be_bytes(file[at..at + 4].try_into().unwrap());
-    assert_eq!(&file[12..16], b"IHDR");
-    let (width, height, colour) = (word(16), word(20), file[25]);
-    assert_eq!(&file[37..41], b"IDAT");
-    let stream = &file[41..41 + word(33) as usize];
-    let (mut at, mut bytes) = (2, Vec::new());
-    loop {
-        let length = u16::from_le_bytes([stream[at + 1], stream[at + 2]]) as usize;
-        bytes.extend(&stream[at + 5..at + 5 + length]);
-        at += 5 + length;
-        if stream[at - 5 - length] == 1 {
-            break;
-        }
-    }
-    assert_eq!(stream.len(), at + 4);
-    assert_eq!(&file[file.len() - 8..file.len() - 4], b"IEND");
-    (width, height, colour, bytes)
 }
 
 #[test]
@@ -612,17 +479,39 @@ fn pictures_of_three_bands_and_of_one() {
     USUAL.write(&folder, "image", sample(false));
     succeeds(&folder, &["pack", "image.hdr", "f"]);
     succeeds(&folder, &["picture", "f", "colour.png"]);
-    let (width, height, colour, bytes) = read_png(&fs::read(folder.join("colour.png")).unwrap());
-    assert_eq!((width, height, colour), (5, 4, 2));
-    assert_eq!(bytes.len(), 4 * (1 + 3 * 5));
-    // The first sample of every band is its least, the last its greatest.
-    assert_eq!((bytes[1], bytes[bytes.len() - 1]), (0, 255));
-    succeeds(&folder, &["picture", "f", "grey.png", "--bands", "2"]);
-    let (_, _, colour, bytes) = read_png(&fs::read(folder.join("grey.png")).unwrap());
-    assert_eq!((colour, bytes.len()), (0, 4 * (1 + 5)));
-    let message = fails(&folder, &["picture", "f", "no.png", "--bands", "3"]);
+    // Five columns are enlarged by 102 to fill 512 points.
+    let picture = common::read_png(&common::bytes(&folder, "colour.png"));
+    assert_eq!(
+        (picture.width, picture.height, picture.channels),
+        (510, 408, 3)
+    );
+    succeeds(&folder, &["picture", "f", "small.png", "--zoom", "1"]);
+    let picture = common::read_png(&common::bytes(&folder, "small.png"));
+    assert_eq!((picture.width, picture.height, picture.channels), (5, 4, 3));
+    // The first sample of every band is its least, the last its greatest; between them
+    // each pixel is as the stretch makes it.
+    for (pixel, colour) in picture.bytes.chunks(3).enumerate() {
+        let (row, column) = (pixel as i32 / 5, pixel as i32 % 5);
+        let grey = ((13 * row + 2 * column) * 255 / (39 + 8)) as u8;
+        assert_eq!(colour, [grey; 3]);
+    }
+    succeeds(
+        &folder,
+        &["picture", "f", "grey.png", "--bands", "2", "--zoom", "3"],
+    );
+    let picture = common::read_png(&common::bytes(&folder, "grey.png"));
+    assert_eq!(
+        (picture.width, picture.height, picture.channels),
+        (15, 12, 1)
+    );
+    assert_eq!((picture.bytes[0], picture.bytes[15 * 12 - 1]), (0, 255));
+    let message = fails(&folder, USAGE, &["picture", "f", "no.png", "--bands", "3"]);
     assert!(message.contains("3 is no band from 0 to 2"), "{message}");
-    fails(&folder, &["picture", "f", "no.png", "--bands", "0,1"]);
+    fails(
+        &folder,
+        USAGE,
+        &["picture", "f", "no.png", "--bands", "0,1"],
+    );
 }
 
 #[test]
@@ -649,5 +538,13 @@ fn the_demonstration_runs_and_its_files_are_good() {
         fs::read(plot.join("plot.cube")).unwrap(),
         fs::read(plot.join("again.cube")).unwrap()
     );
-    read_png(&fs::read(plot.join("plot.png")).unwrap());
+    let picture = common::read_png(&common::bytes(&plot, "plot.png"));
+    assert_eq!(
+        (picture.width, picture.height, picture.channels),
+        (512 + 560, 512, 3)
+    );
+    // A second time it finds its files, and says so.
+    assert!(common::succeeds(&folder, &["demo", "plot"]).contains("are there already"));
+    fs::write(plot.join("plot.hdr"), "another").unwrap();
+    assert!(common::fails(&plot, FILE, &["demo", "."]).contains("--force replaces it"));
 }

@@ -137,13 +137,13 @@ fn short_outputs_and_empty_areas() {
 
 #[test]
 fn numbers_and_words_of_refusals() {
-    for number in 1..=13 {
+    for number in 1..=19 {
         let answer = boundary::Answer(number << 56 | 77);
         let refusal = Refusal::of_answer(answer).unwrap_err();
         assert_eq!(u64::from(refusal.number()), number);
         let text = refusal.to_string();
         assert!(text.starts_with(&format!("refusal {number}: ")), "{text}");
-        let has_value = [2, 6, 9, 10, 11, 13].contains(&number);
+        let has_value = [2, 6, 9, 10, 11, 17, 19].contains(&number);
         assert_eq!(text.contains("77"), has_value, "{text}");
         assert!(!refusal.advice().is_empty());
     }
@@ -225,6 +225,16 @@ fn table_complaints_name_the_value() {
     assert_eq!(complaint, "k' of band 0 is 8 and must be 0 to 7");
     let refusal = pack(&settings, Some(&tables), &[0; 24]).unwrap_err();
     assert_eq!(refusal, Refusal::IllegalSetting);
+    // Of illegal settings nothing is said here, whatever they are.
+    for settings in [
+        settings.weights(Weights::Table { resolution: 0 }),
+        settings.weights(Weights::Table { resolution: 99 }),
+        settings.prediction_bands(-1),
+        settings.prediction_bands(i32::MAX),
+    ] {
+        assert_eq!(settings.table_complaint(&tables), None);
+        assert!(settings.complaint().is_some());
+    }
 }
 
 #[test]

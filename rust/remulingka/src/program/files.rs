@@ -1,94 +1,104 @@
-//! Files, read whole and written whole or not at all.
+//! Files that are read. `-` is standard input.
 
-use std::fs;
-use std::io::Write;
-use std::path::{Path, PathBuf};
+use std::fs::{self, File};
+use std::io::{self, Read};
+use std::os::unix::fs::MetadataExt;
+use std::path::Path;
 
-use super::Failure;
+use remulingka::limits::LONGEST_HEADER;
+use remulingka::longest_file;
 
-/// A message about a file.
-pub fn about(path: &Path, what: impl std::fmt::Display) -> Failure {
-    format!("{}: {what}", path.display())
+use super::failure::Failure;
+
+/// No text that is read here is longer than this; what is longer is no text.
+const MOST_TEXT: u64 = 16 << 20;
+
+/// Whether a name stands for standard input or output.
+pub fn is_dash(path: &Path) -> bool {
+    path.as_os_str() == "-"
 }
 
-/// Reads a whole file.
-pub fn read(path: &Path) -> Result<Vec<u8>, Failure> {
-    fs::read(path).map_err(|error| about(path, error))
+/// Opens a file, or standard input.
+pub fn reader(path: &Path) -> Result<Box<dyn Read>, Failure> {
+    if is_dash(path) {
+        return Ok(Box::new(io::stdin().lock()));
+    }
+    let file = File::open(path).map_err(|error| Failure::file(path, error))?;
+    let metadata = file.metadata();
+    let metadata = metadata.map_err(|error| Failure::file(path, error))?;
+    if metadata.is_dir() {
+        return Err(Failure::file(path, "this is a folder"));
+    }
+    Ok(Box::new(file))
 }
 
-/// Reads a text. Headers of old programs hold other bytes than UTF-8 in their
-/// remarks; these are of no use here and become question marks.
+/// Reads on until `bytes` has `most` bytes or the file ends.
+fn read_up_to(
+    path: &Path,
+    from: &mut dyn Read,
+    most: u64,
+    bytes: &mut Vec<u8>,
+) -> Result<(), Failure> {
+    let more = most.saturating_sub(bytes.len() as u64);
+    let read = from.take(more).read_to_end(bytes);
+    read.map(|_| ()).map_err(|error| Failure::file(path, error))
+}
+
+/// Reads a short text that begins with `first`, if that is wanted; a file that
+/// begins otherwise is read no further.
+pub fn read_text_bytes(path: &Path, first: &[u8]) -> Result<Option<Vec<u8>>, Failure> {
+    let (mut from, mut bytes) = (reader(path)?, Vec::new());
+    read_up_to(path, &mut from, first.len() as u64, &mut bytes)?;
+    if bytes != first {
+        return Ok(None);
+    }
+    read_up_to(path, &mut from, MOST_TEXT + 1, &mut bytes)?;
+    if bytes.len() as u64 > MOST_TEXT {
+        return Err(Failure::file(path, "this is too long for a text"));
+    }
+    Ok(Some(bytes))
+}
+
+/// Reads a text of ours: settings, tables, a list of names.
 pub fn read_text(path: &Path) -> Result<String, Failure> {
-    Ok(String::from_utf8_lossy(&read(path)?).into_owned())
+    let bytes = read_text_bytes(path, b"")?.unwrap_or_default();
+    String::from_utf8(bytes).map_err(|_| Failure::refused(path, "this is no text in UTF-8"))
 }
 
-/// Writes to the output. A reader that went away early is no fault.
-pub fn print(text: &str) -> Result<(), Failure> {
-    match std::io::stdout().write_all(text.as_bytes()) {
-        Err(error) if error.kind() != std::io::ErrorKind::BrokenPipe => {
-            Err(format!("the output: {error}"))
-        }
-        _ => Ok(()),
+/// Reads the start of a cube file, all of its header and little more.
+pub fn read_cube_start(path: &Path) -> Result<Vec<u8>, Failure> {
+    let mut bytes = Vec::new();
+    read_up_to(path, &mut reader(path)?, LONGEST_HEADER as u64, &mut bytes)?;
+    Ok(bytes)
+}
+
+/// Reads a cube file: at most one byte more than the longest of its sizes has, so
+/// that what is no cube file is not read to its end.
+pub fn read_cube(path: &Path) -> Result<Vec<u8>, Failure> {
+    let (mut from, mut bytes) = (reader(path)?, Vec::new());
+    read_up_to(path, &mut from, LONGEST_HEADER as u64, &mut bytes)?;
+    if let Ok(settings) = remulingka::look(&bytes) {
+        let longest = longest_file(settings.bands as usize, settings.sample_count() as usize);
+        read_up_to(path, &mut from, longest as u64 + 1, &mut bytes)?;
     }
+    Ok(bytes)
 }
 
-/// A file under a temporary name. Unless it is renamed it is removed again.
-struct Pending {
-    temporary: PathBuf,
-    target: PathBuf,
-}
-
-impl Drop for Pending {
-    fn drop(&mut self) {
-        // After the renaming there is nothing here to remove.
-        let _ = fs::remove_file(&self.temporary);
+/// Whether two names are of one and the same file that is there.
+pub fn is_same(one: &Path, other: &Path) -> bool {
+    match (fs::metadata(one), fs::metadata(other)) {
+        (Ok(one), Ok(other)) => (one.dev(), one.ino()) == (other.dev(), other.ino()),
+        _ => false,
     }
-}
-
-impl Pending {
-    /// Writes `bytes` beside `path`. The same folder means the same disk, where a
-    /// renaming is one step.
-    fn write(path: &Path, bytes: &[u8]) -> Result<Pending, Failure> {
-        let target = fs::canonicalize(path).unwrap_or_else(|_| path.to_path_buf());
-        // A renaming would put a file in place of a device or a folder.
-        if target.exists() && !target.is_file() {
-            return Err(about(path, "this is no ordinary file; it is left alone"));
-        }
-        let name = target.file_name().unwrap_or_default().to_string_lossy();
-        let temporary = target.with_file_name(format!(".{name}.{}.part", std::process::id()));
-        let pending = Pending { temporary, target };
-        let written = fs::File::create(&pending.temporary).and_then(|mut file| {
-            file.write_all(bytes)?;
-            file.sync_all()
-        });
-        written.map_err(|error| about(path, error))?;
-        Ok(pending)
-    }
-
-    /// Gives the file its name, in one step.
-    fn finish(self) -> Result<(), Failure> {
-        fs::rename(&self.temporary, &self.target).map_err(|error| about(&self.target, error))
-    }
-}
-
-/// Writes all files, or, should one fail to be written, none. They are renamed in
-/// the order given, only once all of them are whole on the disk.
-pub fn write_together(files: &[(&Path, &[u8])]) -> Result<(), Failure> {
-    let pending: Result<Vec<Pending>, Failure> = files
-        .iter()
-        .map(|(path, bytes)| Pending::write(path, bytes))
-        .collect();
-    pending?.into_iter().try_for_each(Pending::finish)
 }
 
 /// Refuses an output that is one of the inputs.
 pub fn keep_apart(output: &Path, inputs: &[&Path]) -> Result<(), Failure> {
-    let Ok(real_output) = fs::canonicalize(output) else {
-        return Ok(());
-    };
-    let is_input = |input: &&Path| fs::canonicalize(input).is_ok_and(|real| real == real_output);
-    if inputs.iter().any(is_input) {
-        return Err(about(output, "this is an input; name another output"));
+    if inputs.iter().any(|input| is_same(output, input)) {
+        return Err(Failure::file(
+            output,
+            "this is an input; name another output",
+        ));
     }
     Ok(())
 }

@@ -1,7 +1,5 @@
-//! A minimal PNG writer: 8 bits a channel, grey or colour, nothing compressed.
-
-/// The most bytes of one stored block.
-const MOST_STORED: usize = 65_535;
+//! A minimal PNG writer: 8 bits a channel, grey or colour. Rows that repeat the one
+//! above and runs of one value are packed; that is most of what a quick look has.
 
 /// A picture, row by row; 1 or 3 bytes a pixel.
 pub struct Raster {
@@ -10,6 +8,9 @@ pub struct Raster {
     pub channels: usize,
     pub bytes: Vec<u8>,
 }
+
+/// The most bytes of one run.
+const LONGEST_RUN: usize = 258;
 
 /// The picture as a PNG file.
 pub fn encode(raster: &Raster) -> Vec<u8> {
@@ -21,33 +22,107 @@ pub fn encode(raster: &Raster) -> Vec<u8> {
     // compression and filter methods there are, and no interlacing.
     header.extend([8, if raster.channels == 3 { 2 } else { 0 }, 0, 0, 0]);
     put_chunk(&mut file, b"IHDR", &header);
-    put_chunk(&mut file, b"IDAT", &stored(&filtered(raster)));
+    put_chunk(&mut file, b"IDAT", &packed(&filtered(raster)));
     put_chunk(&mut file, b"IEND", &[]);
     file
 }
 
-/// The rows, each behind its filter type: 0, none.
+/// The rows, each behind its filter type, 2: the difference from the row above.
 fn filtered(raster: &Raster) -> Vec<u8> {
+    let width = raster.width * raster.channels;
     let mut rows = Vec::with_capacity(raster.bytes.len() + raster.height);
-    for row in raster.bytes.chunks(raster.width * raster.channels) {
-        rows.push(0);
-        rows.extend(row);
+    let mut above = vec![0; width];
+    for row in raster.bytes.chunks(width) {
+        rows.push(2);
+        rows.extend(
+            row.iter()
+                .zip(&above)
+                .map(|(new, old)| new.wrapping_sub(*old)),
+        );
+        above.copy_from_slice(row);
     }
     rows
 }
 
-/// A zlib stream of stored blocks.
-fn stored(bytes: &[u8]) -> Vec<u8> {
-    let mut stream = vec![0x78, 0x01];
-    let mut blocks = bytes.chunks(MOST_STORED).peekable();
-    while let Some(block) = blocks.next() {
-        let is_last = blocks.peek().is_none();
-        let length = block.len() as u16;
-        stream.push(u8::from(is_last));
-        stream.extend(length.to_le_bytes());
-        stream.extend((!length).to_le_bytes());
-        stream.extend(block);
+/// Bits on their way into bytes, the least significant first.
+#[derive(Default)]
+struct Bits {
+    bytes: Vec<u8>,
+    word: u32,
+    count: u32,
+}
+
+impl Bits {
+    fn put(&mut self, value: u32, count: u32) {
+        self.word |= value << self.count;
+        self.count += count;
+        while self.count >= 8 {
+            self.bytes.push(self.word as u8);
+            self.word >>= 8;
+            self.count -= 8;
+        }
     }
+
+    /// Puts a codeword, whose first bit is its most significant.
+    fn put_code(&mut self, code: u32, count: u32) {
+        self.put(code.reverse_bits() >> (32 - count), count);
+    }
+
+    /// Puts a symbol of deflate's fixed code (RFC 1951, 3.2.6).
+    fn put_symbol(&mut self, symbol: u32) {
+        match symbol {
+            0..=143 => self.put_code(0x30 + symbol, 8),
+            144..=255 => self.put_code(0x190 + symbol - 144, 9),
+            256..=279 => self.put_code(symbol - 256, 7),
+            _ => self.put_code(0xC0 + symbol - 280, 8),
+        }
+    }
+
+    /// Puts the length of a run that repeats the byte before it (RFC 1951, 3.2.5).
+    fn put_run(&mut self, length: usize) {
+        let length = length as u32;
+        if length == LONGEST_RUN as u32 {
+            self.put_symbol(285);
+        } else if length < 11 {
+            self.put_symbol(254 + length);
+        } else {
+            // From 11 on each power of 2 has four symbols, with ever more bits behind.
+            let extra = (length - 3).ilog2() - 2;
+            let step = (length - 3) >> extra;
+            self.put_symbol(257 + 4 * extra + step);
+            self.put((length - 3) & ((1 << extra) - 1), extra);
+        }
+        // The distance is 1: symbol 0 of five bits.
+        self.put(0, 5);
+    }
+}
+
+/// A zlib stream of one block of the fixed code, with runs and no other repeats.
+fn packed(bytes: &[u8]) -> Vec<u8> {
+    let mut bits = Bits::default();
+    bits.put(1, 1);
+    bits.put(1, 2);
+    let mut rest = bytes;
+    while let Some((&first, behind)) = rest.split_first() {
+        bits.put_symbol(u32::from(first));
+        rest = behind;
+        loop {
+            let same = rest
+                .iter()
+                .take(LONGEST_RUN)
+                .take_while(|&&byte| byte == first);
+            let length = same.count();
+            if length < 3 {
+                break;
+            }
+            bits.put_run(length);
+            rest = &rest[length..];
+        }
+    }
+    bits.put_symbol(256);
+    bits.put(0, 7);
+    let mut stream = vec![0x78, 0x01];
+    stream.extend(bits.bytes);
     stream.extend(adler32(bytes).to_be_bytes());
     stream
 }

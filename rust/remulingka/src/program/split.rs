@@ -1,0 +1,105 @@
+//! Scenes larger than one cube: `remulingka pack --split`.
+
+use std::io::Write;
+use std::ops::Range;
+use std::path::{Path, PathBuf};
+
+use remulingka::MOST_SAMPLES;
+
+use super::arguments::Arguments;
+use super::console::Progress;
+use super::envi::Window;
+use super::failure::Failure;
+use super::files::is_dash;
+use super::image::{counted, Image};
+use super::pack::{guard_output, pack_rows, say_dropped, Job};
+use super::replace::Replacement;
+use super::stored::{stored_path, Scene};
+use super::sum::sum_of;
+
+/// The name of a part: its number before the ending.
+fn part_name(output: &Path, number: usize) -> PathBuf {
+    let stem = output.file_stem().unwrap_or_default();
+    let mut name = stem.to_os_string();
+    name.push(format!(".{number:04}"));
+    if let Some(ending) = output.extension() {
+        name.push(".");
+        name.push(ending);
+    }
+    output.with_file_name(name)
+}
+
+/// The rows of each part.
+fn part_rows(arguments: &Arguments, window: &Window) -> Result<Vec<Range<usize>>, Failure> {
+    let [columns, _, bands] = window.sizes();
+    let of_row = columns.saturating_mul(bands).max(1);
+    let most = (MOST_SAMPLES / of_row).clamp(1, 1 << 16);
+    let size = match arguments.text("split").as_deref() {
+        Some("most") => most,
+        _ => match arguments.number("split")? {
+            Some(size @ 1..) => size,
+            _ => return Err(arguments.usage("--split: a count of rows, or most")),
+        },
+    };
+    let starts = window.rows.clone().step_by(size);
+    let end_of = |start: usize| start.saturating_add(size).min(window.rows.end);
+    Ok(starts.map(|start| start..end_of(start)).collect())
+}
+
+/// Packs an image in parts of some rows, one after the other. Each stored header says
+/// which rows its part has, and all have in common a sum over all parts' sums, so that
+/// parts of two scenes are never joined.
+pub fn pack_parts(
+    arguments: &Arguments,
+    progress: &Progress,
+    image: &Image,
+    job: &Job,
+) -> Result<String, Failure> {
+    if is_dash(&job.output) || is_dash(&image.data) || arguments.flag("bare") {
+        return Err(arguments.usage("--split is not for standard input or output, nor for --bare"));
+    }
+    let rows = part_rows(arguments, &image.window)?;
+    let names: Vec<PathBuf> = (1..=rows.len())
+        .map(|number| part_name(&job.output, number))
+        .collect();
+    for name in &names {
+        guard_output(arguments, image, &job.image, name)?;
+    }
+    let mut files = Replacement::new(arguments.flag("force"));
+    let (mut parts, mut bytes) = (Vec::new(), 0);
+    for (rows, name) in rows.into_iter().zip(&names) {
+        let (shown, count) = (name.display(), names.len());
+        progress.show(&format!("{shown}: {} of {count}", parts.len() + 1));
+        let mut packed = pack_rows(image, rows)?;
+        files.add(name, |writer| writer.write_all(&packed.cube))?;
+        bytes += packed.cube.len();
+        if parts.is_empty() {
+            say_dropped(image, &packed, false);
+        }
+        let sum = sum_of(&packed.cube);
+        // The cube is on the disk; memory need not hold it too.
+        packed.cube = Vec::new();
+        parts.push((packed, sum));
+    }
+    let (Some(first), Some(last)) = (names.first(), names.last()) else {
+        return Err(Failure::refused(&job.image, "this image has no rows"));
+    };
+    let sums: String = parts.iter().map(|(_, sum)| sum.as_str()).collect();
+    let scene = Scene {
+        identity: sum_of(sums.as_bytes()),
+        rows: image.window.rows.clone(),
+    };
+    for ((packed, sum), name) in parts.iter().zip(&names) {
+        files.add_label(&stored_path(name), &packed.stored_text(Some(&scene), sum))?;
+    }
+    files.finish()?;
+    let samples = image.window.sample_count();
+    Ok(format!(
+        "{} to {}: {}, {bytes} bytes for {samples} samples, {:.3} bits a sample; headers kept \
+         beside them",
+        first.display(),
+        last.display(),
+        counted(names.len() as u64, "part"),
+        8.0 * bytes as f64 / samples as f64,
+    ))
+}
