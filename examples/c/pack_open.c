@@ -1,6 +1,8 @@
 /* Packs a cube of one sample, opens it again and compares.
  *
  *   cc -Iinclude examples/c/pack_open.c target/native/libcube_c.a -o pack_open && ./pack_open
+ *
+ * The settings are those of the file below; for an image of your own call remulingka_usual.
  */
 #include <inttypes.h>
 #include <stdio.h>
@@ -13,7 +15,8 @@ static const uint8_t expected[] = {0x00, 0x00, 0x01, 0x00, 0x01, 0x00, 0x01, 0x1
 
 /* Says what was refused; the status of the program. */
 static int refused(const char *call, uint64_t answer) {
-    fprintf(stderr, "%s: refusal %d with %" PRIu64 "\n", call, remulingka_number_of(answer),
+    int number = remulingka_number_of(answer);
+    fprintf(stderr, "%s: refusal %d: %s (%" PRIu64 ")\n", call, number, remulingka_words(number),
             remulingka_value_of(answer));
     return 1;
 }
@@ -30,7 +33,7 @@ int main(void) {
     const int32_t samples[1] = {130};
     int32_t tables[REMULINGKA_TABLE_SLOTS] = {0};
     int32_t scratch[REMULINGKA_SCRATCH_SLOTS];
-    uint8_t file[88];
+    uint8_t file[REMULINGKA_LONGEST(1, 1, 1)];
 
     uint64_t answer = remulingka_pack(settings, REMULINGKA_SETTING_SLOTS, tables,
                                       REMULINGKA_TABLE_SLOTS, samples, 1, scratch,
