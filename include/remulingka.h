@@ -88,7 +88,7 @@ enum remulingka_slot {
 
 /* No file of an image of these sizes is longer, in bytes: 19 bytes of header fields, 50 bytes of
  * tables a band, at most Umax + D = 48 bits a sample, and fill. An output so long is never
- * refused 6. By reckoning over the format and by tests; it is not among the proved statements. */
+ * refused 6: proved for all legal settings (file-at-most in crates/cube/specs/SizeLaws.antt). */
 #define REMULINGKA_LONGEST(nx, ny, nz) \
     ((size_t)32 + (size_t)50 * (size_t)(nz) + (size_t)6 * (size_t)(nx) * (size_t)(ny) * (size_t)(nz))
 
@@ -98,24 +98,24 @@ enum remulingka_slot {
 enum remulingka_number {
     REMULINGKA_OK = 0,
     REMULINGKA_ILLEGAL_SETTING = 1,    /* writer: a setting or used table value; 0; untouched */
-    REMULINGKA_SAMPLE_RANGE = 2,       /* writer: a sample; index of the first; untouched */
+    REMULINGKA_SAMPLE_OUT_OF_RANGE = 2, /* writer: a sample; index of the first; untouched */
     REMULINGKA_WRONG_COUNT = 3,        /* writer: samples are not Nx*Ny*Nz; reader: image area
                                           smaller; too few slots of settings; 0; untouched */
     REMULINGKA_HOUSE_LIMIT = 4,        /* over a house limit; 0; untouched */
     REMULINGKA_SHORT_AREA = 5,         /* scratch or tables too short; 0; untouched */
-    REMULINGKA_SHORT_OUTPUT = 6,       /* writer: file longer than out; its length; all zero */
-    REMULINGKA_HEADER_ENDS = 7,        /* reader: file ends in its header; 0; untouched */
+    REMULINGKA_NO_ROOM = 6,            /* writer: file longer than out; its length; all zero */
+    REMULINGKA_ENDS_IN_HEADER = 7,     /* reader: file ends in its header; 0; untouched */
     REMULINGKA_ILLEGAL_FIELD = 8,      /* reader: header field, zero bit or fill; 0; untouched */
     REMULINGKA_BODY_ENDS = 9,          /* reader: body ends too soon; rank of the value; all zero */
-    REMULINGKA_FOREIGN_CODEWORD = 10,  /* reader: codeword no writer chooses; rank; all zero */
-    REMULINGKA_AFTER_THE_END = 11,     /* reader: bytes behind the end, or fill set; Nx*Ny*Nz;
+    REMULINGKA_BAD_CODEWORD = 10,      /* reader: codeword no writer chooses; rank; all zero */
+    REMULINGKA_AFTER_END = 11,         /* reader: bytes behind the end, or fill set; Nx*Ny*Nz;
                                           all zero */
-    REMULINGKA_OTHER_CODER = 12,       /* reader: block-adaptive coder; 0; untouched */
+    REMULINGKA_BLOCK_CODER = 12,       /* reader: block-adaptive coder; 0; untouched */
     /* 13 to 18 are of calls that are still to come. */
-    REMULINGKA_UNFIT_FOR_CARD = 13,    /* a file of no bytes, or of too many blocks; 0 */
-    REMULINGKA_OUT_OF_TURN = 14,       /* a row after the last, or an end before it or twice; 0 */
-    REMULINGKA_SECOND_FALLS = 15,      /* the second does not rise; 0 */
-    REMULINGKA_NO_TABLE_LENT = 16,     /* an omitted table, and none lent; 0 */
+    REMULINGKA_UNFIT_FILE = 13,        /* a file of no bytes, or of too many blocks; 0 */
+    REMULINGKA_ROW_OUT_OF_TURN = 14,   /* a row after the last, or an end before it or twice; 0 */
+    REMULINGKA_SECOND_NOT_RISING = 15, /* the second does not rise; 0 */
+    REMULINGKA_NO_TABLES_LENT = 16,    /* an omitted table, and none lent; 0 */
     REMULINGKA_BAD_CALIBRATION = 17,   /* a band's calibration is bad; the first such band */
     REMULINGKA_NO_SERIAL_LEFT = 18     /* no serial is left on the card; 0 */
 };
@@ -131,22 +131,22 @@ static inline const char *remulingka_words(int number) {
     switch (number) {
     case REMULINGKA_OK: return "success";
     case REMULINGKA_ILLEGAL_SETTING: return "a setting is illegal";
-    case REMULINGKA_SAMPLE_RANGE: return "a sample is out of range";
+    case REMULINGKA_SAMPLE_OUT_OF_RANGE: return "a sample is out of range";
     case REMULINGKA_WRONG_COUNT: return "the count of samples or slots is wrong";
     case REMULINGKA_HOUSE_LIMIT: return "the image is over the house limits";
     case REMULINGKA_SHORT_AREA: return "scratch or the table area is too short";
-    case REMULINGKA_SHORT_OUTPUT: return "the file is longer than the output";
-    case REMULINGKA_HEADER_ENDS: return "the file ends inside its header";
+    case REMULINGKA_NO_ROOM: return "the file is longer than the output";
+    case REMULINGKA_ENDS_IN_HEADER: return "the file ends inside its header";
     case REMULINGKA_ILLEGAL_FIELD:
         return "a header field is illegal, or a bit that must be 0 is set";
     case REMULINGKA_BODY_ENDS: return "the file ends too soon";
-    case REMULINGKA_FOREIGN_CODEWORD: return "a codeword that no packer chooses";
-    case REMULINGKA_AFTER_THE_END: return "there are bytes or set bits behind the last value";
-    case REMULINGKA_OTHER_CODER: return "the file has the block-adaptive coder";
-    case REMULINGKA_UNFIT_FOR_CARD: return "the file has no bytes, or more blocks than a strip";
-    case REMULINGKA_OUT_OF_TURN: return "a row after the last, or an end before it or twice";
-    case REMULINGKA_SECOND_FALLS: return "the second is not above the card's last";
-    case REMULINGKA_NO_TABLE_LENT: return "the file omits a table and none was lent";
+    case REMULINGKA_BAD_CODEWORD: return "a codeword that no packer chooses";
+    case REMULINGKA_AFTER_END: return "there are bytes or set bits behind the last value";
+    case REMULINGKA_BLOCK_CODER: return "the file has the block-adaptive coder";
+    case REMULINGKA_UNFIT_FILE: return "the file has no bytes, or more blocks than a strip";
+    case REMULINGKA_ROW_OUT_OF_TURN: return "a row after the last, or an end before it or twice";
+    case REMULINGKA_SECOND_NOT_RISING: return "the second is not above the card's last";
+    case REMULINGKA_NO_TABLES_LENT: return "the file omits a table and none was lent";
     case REMULINGKA_BAD_CALIBRATION: return "the calibration of a band is bad";
     case REMULINGKA_NO_SERIAL_LEFT: return "no serial is left on the card";
     default: return "unknown";

@@ -106,7 +106,8 @@ fn zero_tables(settings: &Settings, tables: Option<&Tables>) -> Vec<i32> {
 
 /// A length that no file of so many bands and samples passes: 19 bytes of header
 /// fields, the tables (18 components of at most 22 bits and half a byte a band), at
-/// most Umax + D = 48 bits a sample, and fill.
+/// most Umax + D = 48 bits a sample, and fill. Proved as `file-at-most` in
+/// `crates/cube/specs/SizeLaws.antt`.
 pub fn longest_file(bands: usize, samples: usize) -> usize {
     32 + 50 * bands + 6 * samples
 }

@@ -21,14 +21,14 @@ pub enum Refusal {
     HouseLimit,
     /// 5: scratch under [`SCRATCH_SLOTS`] a band, or the table area under
     /// [`TABLE_SLOTS`].
-    ShortScratchOrTables,
+    ShortArea,
     /// 6: the file is longer than the output.
-    ShortOutput {
+    NoRoom {
         /// The file's length.
         length: u64,
     },
     /// 7: the file ends inside its header.
-    HeaderEnds,
+    EndsInHeader,
     /// 8: a header field is illegal, or a bit that must be zero is set.
     IllegalField,
     /// 9: the body ends too soon.
@@ -37,25 +37,25 @@ pub enum Refusal {
         rank: u64,
     },
     /// 10: a codeword that the writer would not choose.
-    ForeignCodeword {
+    BadCodeword {
         /// The rank, in coding order, of its value.
         rank: u64,
     },
     /// 11: bytes after the end, or fill that is not zero.
-    AfterTheEnd {
+    AfterEnd {
         /// The count of samples.
         count: u64,
     },
     /// 12: the file was packed with the block-adaptive coder.
-    OtherCoder,
+    BlockCoder,
     /// 13: a file of no bytes, or one of too many blocks for a card's strip.
-    UnfitForCard,
+    UnfitFile,
     /// 14: a row after the last, or an end before it or a second time.
-    OutOfTurn,
+    RowOutOfTurn,
     /// 15: the second is not above those on the card.
-    SecondDoesNotRise,
+    SecondNotRising,
     /// 16: the file omits a table, and none was lent.
-    NoTableLent,
+    NoTablesLent,
     /// 17: a band's calibration is bad.
     BadCalibration {
         /// The first such band.
@@ -82,18 +82,18 @@ impl Refusal {
             2 => Refusal::SampleOutOfRange { index: value },
             3 => Refusal::WrongCount,
             4 => Refusal::HouseLimit,
-            5 => Refusal::ShortScratchOrTables,
-            6 => Refusal::ShortOutput { length: value },
-            7 => Refusal::HeaderEnds,
+            5 => Refusal::ShortArea,
+            6 => Refusal::NoRoom { length: value },
+            7 => Refusal::EndsInHeader,
             8 => Refusal::IllegalField,
             9 => Refusal::BodyEnds { rank: value },
-            10 => Refusal::ForeignCodeword { rank: value },
-            11 => Refusal::AfterTheEnd { count: value },
-            12 => Refusal::OtherCoder,
-            13 => Refusal::UnfitForCard,
-            14 => Refusal::OutOfTurn,
-            15 => Refusal::SecondDoesNotRise,
-            16 => Refusal::NoTableLent,
+            10 => Refusal::BadCodeword { rank: value },
+            11 => Refusal::AfterEnd { count: value },
+            12 => Refusal::BlockCoder,
+            13 => Refusal::UnfitFile,
+            14 => Refusal::RowOutOfTurn,
+            15 => Refusal::SecondNotRising,
+            16 => Refusal::NoTablesLent,
             17 => Refusal::BadCalibration { band: value },
             18 => Refusal::NoSerialLeft,
             number => Refusal::Unknown { number, value },
@@ -107,18 +107,18 @@ impl Refusal {
             Refusal::SampleOutOfRange { .. } => 2,
             Refusal::WrongCount => 3,
             Refusal::HouseLimit => 4,
-            Refusal::ShortScratchOrTables => 5,
-            Refusal::ShortOutput { .. } => 6,
-            Refusal::HeaderEnds => 7,
+            Refusal::ShortArea => 5,
+            Refusal::NoRoom { .. } => 6,
+            Refusal::EndsInHeader => 7,
             Refusal::IllegalField => 8,
             Refusal::BodyEnds { .. } => 9,
-            Refusal::ForeignCodeword { .. } => 10,
-            Refusal::AfterTheEnd { .. } => 11,
-            Refusal::OtherCoder => 12,
-            Refusal::UnfitForCard => 13,
-            Refusal::OutOfTurn => 14,
-            Refusal::SecondDoesNotRise => 15,
-            Refusal::NoTableLent => 16,
+            Refusal::BadCodeword { .. } => 10,
+            Refusal::AfterEnd { .. } => 11,
+            Refusal::BlockCoder => 12,
+            Refusal::UnfitFile => 13,
+            Refusal::RowOutOfTurn => 14,
+            Refusal::SecondNotRising => 15,
+            Refusal::NoTablesLent => 16,
             Refusal::BadCalibration { .. } => 17,
             Refusal::NoSerialLeft => 18,
             Refusal::Unknown { number, .. } => number,
@@ -136,30 +136,30 @@ impl Refusal {
             Refusal::HouseLimit => {
                 return format!("pack the image in parts of at most {}", house_limits())
             }
-            Refusal::ShortScratchOrTables => {
+            Refusal::ShortArea => {
                 return format!(
                     "lend {SCRATCH_SLOTS} scratch slots and {TABLE_SLOTS} table slots for each band"
                 )
             }
-            Refusal::ShortOutput { .. } => "lend an output of that length",
-            Refusal::HeaderEnds | Refusal::BodyEnds { .. } => {
+            Refusal::NoRoom { .. } => "lend an output of that length",
+            Refusal::EndsInHeader | Refusal::BodyEnds { .. } => {
                 "the file was cut short: fetch it again from where it came"
             }
             Refusal::IllegalField => {
                 "the header is damaged or this is no cube file: fetch it again from where it came"
             }
-            Refusal::ForeignCodeword { .. } => {
+            Refusal::BadCodeword { .. } => {
                 "the file is damaged here or before: fetch it again from where it came"
             }
-            Refusal::AfterTheEnd { .. } => {
+            Refusal::AfterEnd { .. } => {
                 "the samples were read, but the file is not the one that was packed: fetch it \
                  again, or cut what was appended"
             }
-            Refusal::OtherCoder => "open it with a program for the block-adaptive coder",
-            Refusal::UnfitForCard => "put a packed file on the card, or cut it into shorter strips",
-            Refusal::OutOfTurn => "give every row once, in order, and then end once",
-            Refusal::SecondDoesNotRise => "set the clock, and append with a later second",
-            Refusal::NoTableLent => "lend the tables that the packer had",
+            Refusal::BlockCoder => "open it with a program for the block-adaptive coder",
+            Refusal::UnfitFile => "put a packed file on the card, or cut it into shorter strips",
+            Refusal::RowOutOfTurn => "give every row once, in order, and then end once",
+            Refusal::SecondNotRising => "set the clock, and append with a later second",
+            Refusal::NoTablesLent => "lend the tables that the packer had",
             Refusal::BadCalibration { .. } => "correct the calibration of that band",
             Refusal::NoSerialLeft => "begin a new card",
             Refusal::Unknown { .. } => "build this program again, with the archive of its edition",
@@ -179,11 +179,11 @@ impl fmt::Display for Refusal {
             }
             Refusal::WrongCount => write!(to, "the count of samples or slots is wrong"),
             Refusal::HouseLimit => write!(to, "the image is over the house limits"),
-            Refusal::ShortScratchOrTables => write!(to, "scratch or the table area is too short"),
-            Refusal::ShortOutput { length } => {
+            Refusal::ShortArea => write!(to, "scratch or the table area is too short"),
+            Refusal::NoRoom { length } => {
                 write!(to, "the file of {length} bytes is longer than the output")
             }
-            Refusal::HeaderEnds => write!(to, "the file ends inside its header"),
+            Refusal::EndsInHeader => write!(to, "the file ends inside its header"),
             Refusal::IllegalField => {
                 write!(
                     to,
@@ -191,22 +191,22 @@ impl fmt::Display for Refusal {
                 )
             }
             Refusal::BodyEnds { rank } => write!(to, "the file ends too soon, at value {rank}"),
-            Refusal::ForeignCodeword { rank } => {
+            Refusal::BadCodeword { rank } => {
                 write!(to, "value {rank} has a codeword that no packer chooses")
             }
-            Refusal::AfterTheEnd { count } => write!(
+            Refusal::AfterEnd { count } => write!(
                 to,
                 "there are bytes or set bits behind the last of {count} values"
             ),
-            Refusal::OtherCoder => write!(to, "the file has the block-adaptive coder"),
-            Refusal::UnfitForCard => {
+            Refusal::BlockCoder => write!(to, "the file has the block-adaptive coder"),
+            Refusal::UnfitFile => {
                 write!(to, "the file has no bytes, or more blocks than a strip")
             }
-            Refusal::OutOfTurn => {
+            Refusal::RowOutOfTurn => {
                 write!(to, "a row after the last, or an end before it or twice")
             }
-            Refusal::SecondDoesNotRise => write!(to, "the second is not above the card's last"),
-            Refusal::NoTableLent => write!(to, "the file omits a table and none was lent"),
+            Refusal::SecondNotRising => write!(to, "the second is not above the card's last"),
+            Refusal::NoTablesLent => write!(to, "the file omits a table and none was lent"),
             Refusal::BadCalibration { band } => {
                 write!(to, "the calibration of band {band} is bad")
             }

@@ -86,32 +86,26 @@ fn every_refusal_of_owned_calls() {
     let tables = Tables::new(0);
     assert_eq!(
         pack(&settings, Some(&tables), &[130]),
-        Err(Refusal::ShortScratchOrTables)
+        Err(Refusal::ShortArea)
     );
     let changed = |index: usize, bits: u8| {
         let mut file = ONE_SAMPLE;
         file[index] ^= bits;
         open(&file).unwrap_err()
     };
-    assert_eq!(open(&ONE_SAMPLE[..18]).unwrap_err(), Refusal::HeaderEnds);
+    assert_eq!(open(&ONE_SAMPLE[..18]).unwrap_err(), Refusal::EndsInHeader);
     assert_eq!(changed(7, 0x20), Refusal::IllegalField);
     assert_eq!(
         open(&ONE_SAMPLE[..19]).unwrap_err(),
         Refusal::BodyEnds { rank: 0 }
     );
-    assert_eq!(changed(10, 0x04), Refusal::OtherCoder);
+    assert_eq!(changed(10, 0x04), Refusal::BlockCoder);
     let longer = [&ONE_SAMPLE[..], &[0]].concat();
-    assert_eq!(
-        open(&longer).unwrap_err(),
-        Refusal::AfterTheEnd { count: 1 }
-    );
+    assert_eq!(open(&longer).unwrap_err(), Refusal::AfterEnd { count: 1 });
     // Document 01: eight zeros and 00000111 is an escape that no writer chooses.
     let mut two = [&ONE_SAMPLE[..], &[0x00, 0x07]].concat();
     two[2] = 2;
-    assert_eq!(
-        open(&two).unwrap_err(),
-        Refusal::ForeignCodeword { rank: 1 }
-    );
+    assert_eq!(open(&two).unwrap_err(), Refusal::BadCodeword { rank: 1 });
 }
 
 #[test]

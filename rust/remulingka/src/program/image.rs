@@ -193,7 +193,7 @@ impl Input<'_> {
                 settings.sample_count(),
                 counted(settings.bands as u64, "band")
             )),
-            Refusal::ShortScratchOrTables => Some("the table file has too few bands".to_string()),
+            Refusal::ShortArea => Some("the table file has too few bands".to_string()),
             _ => None,
         };
         let advice = match refusal {
@@ -201,7 +201,7 @@ impl Input<'_> {
                 "pack it in parts of at most {}, with --split, --rows, --columns or --take-bands",
                 house_limits()
             ),
-            Refusal::ShortScratchOrTables => "give a line for each band".to_string(),
+            Refusal::ShortArea => "give a line for each band".to_string(),
             Refusal::SampleOutOfRange { .. } => depth_advice(settings, &self.samples),
             _ => refusal.advice(),
         };
@@ -228,7 +228,7 @@ pub fn refused_file(path: &Path, bytes: &[u8], refusal: Refusal) -> Failure {
         return Failure::refused(path, "this is an ENVI header, and no cube file");
     }
     let detail = match refusal {
-        Refusal::BodyEnds { rank } | Refusal::ForeignCodeword { rank } => {
+        Refusal::BodyEnds { rank } | Refusal::BadCodeword { rank } => {
             remulingka::look(bytes).ok().map(|settings| {
                 if rank == settings.sample_count() {
                     return "all values are there, but not the fill behind them".to_string();

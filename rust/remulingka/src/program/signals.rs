@@ -9,6 +9,7 @@ use std::os::unix::ffi::OsStrExt;
 use std::path::Path;
 use std::ptr::null_mut;
 use std::sync::atomic::{AtomicI32, AtomicPtr, AtomicUsize, Ordering};
+use std::sync::Mutex;
 
 const HANG_UP: c_int = 1;
 const INTERRUPT: c_int = 2;
@@ -23,8 +24,10 @@ extern "C" {
     fn unlink(path: *const c_char) -> c_int;
 }
 
-/// The names of temporary files. A name is leaked once it stands here, so that the
-/// handler never reads memory that was given back.
+/// Every name that was ever watched: none is given back, so that the handler never
+/// reads memory that is no longer a name.
+static NAMES: Mutex<Vec<CString>> = Mutex::new(Vec::new());
+/// The names of the temporary files that are there now.
 static TEMPORARY: [AtomicPtr<c_char>; 64] = [const { AtomicPtr::new(null_mut()) }; 64];
 /// How many threads are giving files their names: that is not stopped halfway.
 static NAMING: AtomicUsize = AtomicUsize::new(0);
@@ -55,7 +58,7 @@ extern "C" fn stop(number: c_int) {
     for name in &TEMPORARY {
         let name = name.load(Ordering::SeqCst);
         if !name.is_null() {
-            // SAFETY: a pointer here is that of a leaked C string.
+            // SAFETY: a pointer here is that of a string in `NAMES`, which stays.
             unsafe { unlink(name) };
         }
     }
@@ -74,12 +77,14 @@ impl Watched {
     /// Watches a file. Where there are too many, it is not watched: what stays behind
     /// is removed by a later run.
     pub fn new(path: &Path) -> Watched {
-        let Ok(name) = CString::new(path.as_os_str().as_bytes()) else {
+        let name = CString::new(path.as_os_str().as_bytes());
+        let (Ok(name), Ok(mut names)) = (name, NAMES.lock()) else {
             return Watched(None);
         };
-        let name = name.into_raw();
+        let start = name.as_ptr().cast_mut();
+        names.push(name);
         let free = TEMPORARY.iter().position(|place| {
-            let set = place.compare_exchange(null_mut(), name, Ordering::SeqCst, Ordering::SeqCst);
+            let set = place.compare_exchange(null_mut(), start, Ordering::SeqCst, Ordering::SeqCst);
             set.is_ok()
         });
         Watched(free)
