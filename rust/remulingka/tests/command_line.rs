@@ -377,7 +377,7 @@ fn faults_of_images_and_words() {
     )
     .contains("half"));
     assert!(fails(&folder, FILE, &["pack", "image.hdr", "image.img"]).contains("is an input"));
-    assert!(fails(&folder, FILE, &["pack", "image.hdr", "image.hdr"]).contains("is an input"));
+    assert!(fails(&folder, USAGE, &["pack", "image.hdr", "image.hdr"]).contains(".hdr"));
     assert!(fails(&folder, FILE, &["pack", "image.hdr", "no/such/folder/f"]).contains("no/such"));
     fs::create_dir(folder.join("sub")).unwrap();
     let words = ["open", "f", "g.hdr", "--data", "sub"];

@@ -255,6 +255,14 @@ fn folders_lists_and_several_at_a_time() {
     assert_eq!(text.lines().count(), 5, "{text}");
     assert!(text.contains("4 files, and all open"), "{text}");
     assert_eq!(succeeds(&folder, &["check", "archive", "--quiet"]), "");
+    // The stored headers that a shell's star names are passed over.
+    let named = [
+        "check",
+        "archive/a.cube",
+        "archive/a.cube.envi",
+        "archive/b.cube",
+    ];
+    assert!(succeeds(&folder, &named).contains("2 files, and all open"));
     fs::write(folder.join("archive/b.cube"), "short").unwrap();
     let output = remulingka(&folder, &["check", "archive", "-q"]);
     let text = String::from_utf8(output.stdout).unwrap();

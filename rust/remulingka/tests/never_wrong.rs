@@ -5,7 +5,7 @@
 mod common;
 
 use std::fs;
-use std::os::unix::fs::{symlink, PermissionsExt};
+use std::os::unix::fs::{chown, symlink, MetadataExt, PermissionsExt};
 
 use common::*;
 
@@ -76,6 +76,37 @@ fn read_only_files_are_not_replaced_and_modes_are_kept() {
     let metadata = fs::metadata(folder.join("f.cube")).unwrap();
     assert_eq!(metadata.permissions().mode() & 0o7777, 0o640);
     assert!(metadata.len() > 8);
+}
+
+#[test]
+fn the_owner_is_kept() {
+    let folder = folder("owner");
+    USUAL.write(&folder, "image", sample(false));
+    fs::write(folder.join("f.cube"), "another's").unwrap();
+    // Only root can give files away.
+    if chown(folder.join("f.cube"), Some(1234), Some(4321)).is_err() {
+        return;
+    }
+    succeeds(&folder, &["pack", "image.hdr", "f.cube", "--force"]);
+    let metadata = fs::metadata(folder.join("f.cube")).unwrap();
+    assert_eq!((metadata.uid(), metadata.gid()), (1234, 4321));
+}
+
+#[test]
+fn two_names_of_one_output_are_seen() {
+    let folder = folder("one_output");
+    USUAL.write(&folder, "image", sample(false));
+    succeeds(&folder, &["pack", "image.hdr", "f.cube"]);
+    fs::create_dir(folder.join("sub")).unwrap();
+    for data in ["a.hdr", "./a.hdr", "sub/../a.hdr"] {
+        let words = ["open", "f.cube", "a.hdr", "--force", "--data", data];
+        assert!(
+            fails(&folder, USAGE, &words).contains("two outputs"),
+            "{data}"
+        );
+    }
+    let message = fails(&folder, USAGE, &["pack", "image.hdr", "new.hdr"]);
+    assert!(message.contains("does not end with .hdr"), "{message}");
 }
 
 #[test]
@@ -238,6 +269,12 @@ fn what_can_be_read_in_two_ways_is_refused_by_name() {
     assert!(message.contains("wavelength is given twice"), "{message}");
     let message = with("file compression = 1\n");
     assert!(message.contains("file compression = 1"), "{message}");
+    let message = with("major frame offsets = {0, 16}\n");
+    assert!(message.contains("major frame offsets"), "{message}");
+    let header = USUAL.header().replace("ENVI Standard", "TIFF");
+    fs::write(folder.join("image.hdr"), header).unwrap();
+    let message = fails(&folder, REFUSED, &["pack", "image.hdr", "f.cube"]);
+    assert!(message.contains("file type = TIFF"), "{message}");
     // By the first closing brace offset 2 is a field, by counting it is not.
     let inside = "remark = {a {b}\nheader offset = 0\n}\n";
     fs::write(

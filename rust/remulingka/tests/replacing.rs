@@ -323,7 +323,7 @@ fn a_stopped_program_takes_its_temporary_files_with_it() {
 fn files_of_killed_runs_are_removed_by_later_ones() {
     let folder = folder("stale");
     USUAL.write(&folder, "image", sample(false));
-    let old = SystemTime::now() - Duration::from_secs(7200);
+    let old = SystemTime::now() - Duration::from_secs(48 * 3600);
     let make = |name: &str, age: SystemTime| {
         let file = File::create(folder.join(name)).unwrap();
         file.set_modified(age).unwrap();

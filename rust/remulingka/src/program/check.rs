@@ -13,7 +13,7 @@ use super::failure::Failure;
 use super::files::{is_dash, read_cube, read_text};
 use super::image::{counted, refused_file};
 use super::jobs::in_order;
-use super::stored::Stored;
+use super::stored::{is_stored, Stored};
 
 /// What is known of the sum of a file that opens.
 #[derive(Clone, Copy, Debug, PartialEq, Eq)]
@@ -102,7 +102,7 @@ fn files_of(arguments: &Arguments) -> Result<Vec<PathBuf>, Failure> {
     for path in named {
         if path.is_dir() {
             add_folder(&path, &mut files)?;
-        } else {
+        } else if !is_stored(&path) {
             files.push(path);
         }
     }

@@ -163,6 +163,12 @@ pub fn guard_output(
     path: &Path,
     output: &Path,
 ) -> Result<(), Failure> {
+    if is_header_name(output) {
+        return Err(arguments.usage(&format!(
+            "{}: a cube's name does not end with .hdr, for it is no ENVI header",
+            output.display()
+        )));
+    }
     let is_forced = arguments.flag("force");
     let stored = stored_path(output);
     for output in [output, stored.as_path()] {

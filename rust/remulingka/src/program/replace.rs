@@ -21,7 +21,7 @@ use super::signals::{without_stop, Watched};
 /// The beginning of every temporary name; short, so that it fits wherever a name does.
 const PREFIX: &str = ".remulingka-";
 /// A temporary file of a run that is long gone.
-const STALE: Duration = Duration::from_secs(3600);
+const STALE: Duration = Duration::from_secs(24 * 3600);
 /// So many links are followed, as the system does.
 const MOST_LINKS: usize = 40;
 
@@ -41,7 +41,8 @@ fn folder_of(path: &Path) -> &Path {
     }
 }
 
-/// Where a name leads: links are followed, those that lead nowhere too.
+/// Where a name leads: links are followed, those that lead nowhere too, and the folder
+/// has one name only, so that two names of one file are seen to be one.
 fn followed(path: &Path) -> PathBuf {
     let mut path = path.to_path_buf();
     for _ in 0..MOST_LINKS {
@@ -50,7 +51,10 @@ fn followed(path: &Path) -> PathBuf {
             Err(_) => break,
         }
     }
-    path
+    match (fs::canonicalize(folder_of(&path)), path.file_name()) {
+        (Ok(folder), Some(name)) => folder.join(name),
+        _ => path,
+    }
 }
 
 /// Removes temporary files that killed runs left in a folder. One that is written is
@@ -88,10 +92,10 @@ struct Output {
     is_placed: bool,
 }
 
-/// A file under a temporary name, which is removed unless it is given its own.
+/// A file under a temporary name, which is removed unless it is given its own. It is
+/// closed: there may be more of them than a program may have open.
 struct Temporary {
     path: PathBuf,
-    writer: BufWriter<File>,
     _watched: Watched,
 }
 
@@ -376,16 +380,16 @@ fn temporary(
         .read(true)
         .create_new(true)
         .open(&path)?;
-    // The lock says that the file is in use; not every disk has locks.
-    let _ = file.try_lock();
-    let mut new = Temporary {
+    let new = Temporary {
         path,
-        writer: BufWriter::with_capacity(1 << 16, file),
         _watched: watched,
     };
-    write(&mut new.writer)?;
-    new.writer.flush()?;
-    let file = new.writer.get_ref();
+    // The lock says that the file is being written; not every disk has locks.
+    let _ = file.try_lock();
+    let mut writer = BufWriter::with_capacity(1 << 16, file);
+    write(&mut writer)?;
+    writer.flush()?;
+    let file = writer.get_ref();
     if let Some(old) = old {
         let now = file.metadata()?;
         if (now.uid(), now.gid()) != (old.uid(), old.gid()) {

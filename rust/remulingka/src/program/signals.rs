@@ -28,7 +28,7 @@ extern "C" {
 /// reads memory that is no longer a name.
 static NAMES: Mutex<Vec<CString>> = Mutex::new(Vec::new());
 /// The names of the temporary files that are there now.
-static TEMPORARY: [AtomicPtr<c_char>; 64] = [const { AtomicPtr::new(null_mut()) }; 64];
+static TEMPORARY: [AtomicPtr<c_char>; 4096] = [const { AtomicPtr::new(null_mut()) }; 4096];
 /// How many threads are giving files their names: that is not stopped halfway.
 static NAMING: AtomicUsize = AtomicUsize::new(0);
 /// A signal that came meanwhile.

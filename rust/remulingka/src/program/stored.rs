@@ -30,6 +30,12 @@ pub fn stored_path(cube: &Path) -> PathBuf {
     PathBuf::from(name)
 }
 
+/// Whether a file is the stored header of a cube that is there.
+pub fn is_stored(path: &Path) -> bool {
+    let is_named = path.extension().is_some_and(|ending| ending == "envi");
+    is_named && path.with_extension("").is_file()
+}
+
 /// A part of an image, with the sizes of the whole.
 #[derive(Clone, Debug, PartialEq, Eq)]
 pub struct Part {

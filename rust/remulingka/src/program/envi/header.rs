@@ -90,14 +90,7 @@ impl Header {
         if byte_order > 1 {
             return Err(format!("byte order = {byte_order} is not 0 or 1"));
         }
-        if let Some(compression) = fields.word("file compression") {
-            if compression != "0" {
-                return Err(format!(
-                    "file compression = {compression}: the data is compressed; unpack it with \
-                     gunzip and set the field to 0"
-                ));
-            }
-        }
+        refuse_other_data(&fields)?;
         Ok(Header {
             columns: fields.needed("samples")?,
             rows: fields.needed("lines")?,
@@ -163,4 +156,29 @@ impl Header {
     pub fn sizes(&self) -> [usize; 3] {
         [self.columns, self.rows, self.bands]
     }
+}
+
+/// Refuses fields by which the data is not plain samples one behind the other.
+fn refuse_other_data(fields: &Fields) -> Result<(), String> {
+    if let Some(compression) = fields.word("file compression").filter(|word| word != "0") {
+        return Err(format!(
+            "file compression = {compression}: the data is compressed; unpack it with gunzip and \
+             set the field to 0"
+        ));
+    }
+    let kind = fields.word("file type").unwrap_or_default();
+    if !kind.is_empty() && !kind.to_ascii_lowercase().starts_with("envi") {
+        return Err(format!(
+            "file type = {kind}: the data is not ENVI's raw data"
+        ));
+    }
+    for name in ["major frame offsets", "minor frame offsets"] {
+        let value = fields.get(name).unwrap_or_default();
+        if value.iter().any(|byte| (b'1'..=b'9').contains(byte)) {
+            return Err(format!(
+                "{name}: data with bytes between its rows is not read"
+            ));
+        }
+    }
+    Ok(())
 }
