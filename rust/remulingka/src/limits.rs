@@ -36,7 +36,7 @@ pub fn house_limits() -> String {
 
 #[cfg(test)]
 mod tests {
-    use super::{grouped, house_limits};
+    use super::{grouped, house_limits, MOST_SAMPLES};
 
     #[test]
     fn thousands_are_parted() {
@@ -49,6 +49,7 @@ mod tests {
         ] {
             assert_eq!(grouped(number), text);
         }
-        assert_eq!(house_limits(), "1,048,576 samples and 512 bands");
+        let words = house_limits();
+        assert!(words.starts_with(&grouped(MOST_SAMPLES as u64)), "{words}");
     }
 }

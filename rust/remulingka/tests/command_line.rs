@@ -4,6 +4,9 @@ mod common;
 
 use std::fs;
 
+use remulingka::limits::house_limits;
+use remulingka::MOST_SAMPLES;
+
 use common::{folder, remulingka, sample, Layout, BANDS, FILE, REFUSED, USAGE, USUAL};
 
 /// The words with `--force` where a command writes: these tests write to one name
@@ -326,14 +329,20 @@ fn refusals_of_pack_leave_nothing_behind() {
 #[test]
 fn an_image_over_the_house_limits_is_refused_and_can_be_packed_in_parts() {
     let folder = folder("large");
-    let header = "ENVI\nsamples = 1024\nlines = 1025\nbands = 1\ndata type = 1\n";
+    let rows = MOST_SAMPLES / 65_536 + 1;
+    let header = format!("ENVI\nsamples = 65536\nlines = {rows}\nbands = 1\ndata type = 1\n");
     fs::write(folder.join("large.hdr"), header).unwrap();
-    fs::write(folder.join("large.dat"), vec![3; 1024 * 1025]).unwrap();
+    // Zeros that take no room on the disk.
+    let data = fs::File::create(folder.join("large.dat")).unwrap();
+    data.set_len(65_536 * rows as u64).unwrap();
     let message = fails(&folder, REFUSED, &["pack", "large.hdr", "f"]);
     assert!(message.contains("refusal 4"), "{message}");
-    assert!(message.contains("1049600 samples in 1 band;"), "{message}");
+    let sizes = format!("{} samples in 1 band;", 65_536 * rows);
+    assert!(message.contains(&sizes), "{message}");
+    assert!(message.contains(&house_limits()), "{message}");
+    assert!(message.contains("--split"), "{message}");
     assert!(message.contains("--rows"), "{message}");
-    succeeds(&folder, &["pack", "large.hdr", "f", "--rows", "0:1024"]);
+    succeeds(&folder, &["pack", "large.hdr", "f", "--rows", "0:1"]);
     succeeds(&folder, &["check", "f"]);
 }
 

@@ -2,7 +2,7 @@
 
 use remulingka::{
     boundary, length, look, open, pack, InitialK, Order, Refusal, Settings, Tables, Weights,
-    SETTING_SLOTS,
+    MOST_BANDS, SETTING_SLOTS,
 };
 
 /// Document 01's first worked file: one sample, 130.
@@ -81,7 +81,7 @@ fn every_refusal_of_owned_calls() {
     );
     assert_eq!(refused(settings, &[1, 2]), Refusal::WrongCount);
     let mut many = settings;
-    many.bands = 513;
+    many.bands = MOST_BANDS as i32 + 1;
     assert_eq!(refused(many, &[]), Refusal::HouseLimit);
     let tables = Tables::new(0);
     assert_eq!(

@@ -10,8 +10,7 @@ use common::*;
 const WIDE: usize = 1024;
 const TALL: usize = 2500;
 
-/// A scene over the limit of one cube: 1,024 columns, 2,500 rows and one band, with a
-/// map and more rows than one cube takes.
+/// A scene of 1,024 columns and 2,500 rows of all bands together, with a map.
 fn write_scene(folder: &Path, interleave: &str, bands: usize) -> Vec<u8> {
     let rows = TALL / bands;
     let header = format!(
@@ -31,15 +30,9 @@ fn a_scene_goes_into_parts_and_comes_back() {
     for (interleave, bands) in [("bsq", 1), ("bsq", 5), ("bil", 5), ("bip", 5)] {
         let folder = folder(&format!("scene_{interleave}_{bands}"));
         let data = write_scene(&folder, interleave, bands);
-        let message = fails(&folder, REFUSED, &["pack", "scene.hdr", "scene.cube"]);
-        assert!(
-            message.contains("refusal 4") && message.contains("--split"),
-            "{message}"
-        );
-        let line = succeeds(
-            &folder,
-            &["pack", "scene.hdr", "scene.cube", "--split", "most"],
-        );
+        let rows = (1000 / bands).to_string();
+        let words = ["pack", "scene.hdr", "scene.cube", "--split", &rows];
+        let line = succeeds(&folder, &words);
         assert!(
             line.contains("scene.0001.cube to scene.0003.cube: 3 parts"),
             "{line}"
@@ -158,7 +151,7 @@ fn most_memory(folder: &Path, words: &[&str]) -> u64 {
 #[test]
 fn memory_holds_one_part_and_no_second_copy() {
     let folder = folder("memory");
-    // Eight cubes of the most samples: 4 MiB each as they are lent.
+    // Eight parts of 4 MiB each as they are lent.
     let header = "ENVI\nsamples = 1024\nlines = 8192\nbands = 1\ndata type = 1\n";
     fs::write(folder.join("scene.hdr"), header).unwrap();
     let data: Vec<u8> = (0..8 << 20)
@@ -167,7 +160,7 @@ fn memory_holds_one_part_and_no_second_copy() {
     fs::write(folder.join("scene.img"), data).unwrap();
     let packing = most_memory(
         &folder,
-        &["pack", "scene.hdr", "s.cube", "--split", "most", "-q"],
+        &["pack", "scene.hdr", "s.cube", "--split", "1024", "-q"],
     );
     let parts: Vec<String> = (1..=8).map(|part| format!("s.000{part}.cube")).collect();
     let parts: Vec<&str> = parts.iter().map(String::as_str).collect();

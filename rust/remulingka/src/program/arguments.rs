@@ -96,10 +96,11 @@ impl Arguments {
 
     /// A message that ends with where help is.
     pub fn usage(&self, message: &str) -> Failure {
-        Failure::Usage(format!(
-            "{message} (see remulingka help {})",
-            self.command.name
-        ))
+        let page = match self.command.name {
+            "help" => String::new(),
+            name => format!(" {name}"),
+        };
+        Failure::Usage(format!("{message} (see remulingka help{page})"))
     }
 
     /// Whether the flag was given.

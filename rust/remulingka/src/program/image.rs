@@ -242,7 +242,11 @@ pub fn refused_file(path: &Path, bytes: &[u8], refusal: Refusal) -> Failure {
         }
         _ => None,
     };
-    worded(path, refusal, detail, &refusal.advice())
+    let advice = match refusal {
+        Refusal::HouseLimit => format!("this program takes at most {}", house_limits()),
+        _ => refusal.advice(),
+    };
+    worded(path, refusal, detail, &advice)
 }
 
 /// Opens a file's bytes.

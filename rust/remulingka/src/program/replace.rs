@@ -13,8 +13,9 @@ use std::io::{self, BufWriter, ErrorKind, Write};
 use std::os::unix::fs::{fchown, MetadataExt, PermissionsExt};
 use std::path::{Path, PathBuf};
 use std::sync::atomic::{AtomicU64, Ordering};
-use std::time::Duration;
+use std::time::{Duration, SystemTime, UNIX_EPOCH};
 
+use super::console::note;
 use super::failure::Failure;
 use super::signals::{without_stop, Watched};
 
@@ -22,6 +23,8 @@ use super::signals::{without_stop, Watched};
 const PREFIX: &str = ".remulingka-";
 /// A temporary file of a run that is long gone.
 const STALE: Duration = Duration::from_secs(24 * 3600);
+/// An exchange of files is long over.
+const EXCHANGED: Duration = Duration::from_secs(60);
 /// So many links are followed, as the system does.
 const MOST_LINKS: usize = 40;
 
@@ -57,23 +60,35 @@ fn followed(path: &Path) -> PathBuf {
     }
 }
 
-/// Removes temporary files that killed runs left in a folder. One that is written is
-/// locked, and one that cannot be locked is left alone.
-fn remove_stale(folder: &Path) {
+/// Removes temporary files that killed runs left in a folder, and names the older
+/// files that they left. A file that is being written is locked, and one that cannot be
+/// locked is left alone.
+fn look_for_left(folder: &Path) {
     let entries = fs::read_dir(folder).into_iter().flatten().flatten();
     for entry in entries {
         let name = entry.file_name();
         let name = name.to_string_lossy();
-        if !name.starts_with(PREFIX) || !name.ends_with(".part") {
+        let Ok(metadata) = entry.metadata() else {
+            continue;
+        };
+        if !name.starts_with(PREFIX) {
             continue;
         }
-        let modified = entry.metadata().and_then(|metadata| metadata.modified());
-        let is_old = modified.is_ok_and(|time| time.elapsed().is_ok_and(|age| age > STALE));
+        // When it got this name, whatever its own age is.
+        let named = UNIX_EPOCH + Duration::from_secs(metadata.ctime().max(0) as u64);
+        if name.ends_with(".old") && is_older(Ok(named), EXCHANGED) {
+            let what = "this is an older file that a killed run was about to replace";
+            note(&format!("{}: {what}", entry.path().display()));
+        }
         let is_free = || File::open(entry.path()).is_ok_and(|file| file.try_lock().is_ok());
-        if is_old && is_free() {
+        if name.ends_with(".part") && is_older(metadata.modified(), STALE) && is_free() {
             let _ = fs::remove_file(entry.path());
         }
     }
+}
+
+fn is_older(time: io::Result<SystemTime>, than: Duration) -> bool {
+    time.is_ok_and(|time| time.elapsed().is_ok_and(|age| age > than))
 }
 
 /// A file that is to be given its name.
@@ -192,7 +207,7 @@ impl Replacement {
                 path.display()
             )));
         }
-        remove_stale(folder_of(&target));
+        look_for_left(folder_of(&target));
         let new = temporary(&target, old.as_ref(), write);
         let new = new.map_err(|error| Failure::file(path, error))?;
         self.outputs.push(Output {

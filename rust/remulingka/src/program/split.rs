@@ -17,6 +17,9 @@ use super::replace::Replacement;
 use super::stored::{stored_path, Scene};
 use super::sum::sum_of;
 
+/// The standard's limit on the rows of an image.
+const MOST_ROWS: usize = 1 << 16;
+
 /// The name of a part: its number before the ending.
 fn part_name(output: &Path, number: usize) -> PathBuf {
     let stem = output.file_stem().unwrap_or_default();
@@ -29,13 +32,18 @@ fn part_name(output: &Path, number: usize) -> PathBuf {
     output.with_file_name(name)
 }
 
-/// The rows of each part.
-fn part_rows(arguments: &Arguments, window: &Window) -> Result<Vec<Range<usize>>, Failure> {
+/// The most rows of a window that one cube holds; one where it holds none, which is
+/// then refused.
+fn most_rows(window: &Window) -> usize {
     let [columns, _, bands] = window.sizes();
     let of_row = columns.saturating_mul(bands).max(1);
-    let most = (MOST_SAMPLES / of_row).clamp(1, 1 << 16);
+    (MOST_SAMPLES / of_row).clamp(1, MOST_ROWS)
+}
+
+/// The rows of each part.
+fn part_rows(arguments: &Arguments, window: &Window) -> Result<Vec<Range<usize>>, Failure> {
     let size = match arguments.text("split").as_deref() {
-        Some("most") => most,
+        Some("most") => most_rows(window),
         _ => match arguments.number("split")? {
             Some(size @ 1..) => size,
             _ => return Err(arguments.usage("--split: a count of rows, or most")),
@@ -102,4 +110,27 @@ pub fn pack_parts(
         counted(names.len() as u64, "part"),
         8.0 * bytes as f64 / samples as f64,
     ))
+}
+
+#[cfg(test)]
+mod tests {
+    use super::{most_rows, part_name, Path, Window, MOST_ROWS, MOST_SAMPLES};
+
+    #[test]
+    fn the_most_rows_are_the_most_that_a_cube_holds() {
+        for [columns, bands] in [[1024, 1], [320, 100], [614, 224], [3, 7]] {
+            let rows = most_rows(&Window::whole([columns, 1_000_000, bands]));
+            assert!(rows * columns * bands <= MOST_SAMPLES && rows <= MOST_ROWS);
+            assert!((rows + 1) * columns * bands > MOST_SAMPLES || rows == MOST_ROWS);
+        }
+        // A row that no cube holds is a part of its own, and is refused.
+        assert_eq!(most_rows(&Window::whole([MOST_SAMPLES, 5, 2])), 1);
+    }
+
+    #[test]
+    fn the_number_stands_before_the_ending() {
+        let name = |output: &str, number| part_name(Path::new(output), number);
+        assert_eq!(name("a/scene.cube", 3), Path::new("a/scene.0003.cube"));
+        assert_eq!(name("scene", 12345), Path::new("scene.12345"));
+    }
 }
