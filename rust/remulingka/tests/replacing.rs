@@ -284,7 +284,15 @@ fn a_stopped_program_takes_its_temporary_files_with_it() {
         .status()
         .unwrap();
     assert!(pipe.success());
-    for signal in ["INT", "TERM", "HUP"] {
+    // Started in the background or under nohup, a run inherits ignored signals, and so does the
+    // program, which leaves them ignored: those cannot stop it.
+    let status = fs::read_to_string("/proc/self/status").unwrap();
+    let mask = status.lines().find_map(|line| line.strip_prefix("SigIgn:"));
+    let ignored = u64::from_str_radix(mask.unwrap().trim(), 16).unwrap();
+    let heard = [("INT", 2), ("TERM", 15), ("HUP", 1)]
+        .into_iter()
+        .filter(|(_, number)| ignored >> (number - 1) & 1 == 0);
+    for (signal, _) in heard {
         let words = ["open", "--join", "s.0001.cube", "s.0002.cube", "joined.hdr"];
         let mut child = command(&base, &words).spawn().unwrap();
         let is_part = |name: &str| name.starts_with(".remulingka-");
