@@ -5,7 +5,7 @@ use mathlib.Core.List.{List}
 use Prim.Native.Nat.{ℕ, _*_, _<_, _≤_}
 use lib.IntN.{ℤ}
 use lib.ListN.{length}
-use Rattle.settings.specs.Tables.{stride, scratchStride, tablesLegal}
+use Rattle.settings.specs.Tables.{tableStride, scratchStride, tablesLegal}
 use Rattle.body_value.specs.declared.plan.Plan.{Plan}
 use Rattle.body_value.specs.Plan.{Planned}
 use Rattle.body_value.specs.Value.{Started}
@@ -15,7 +15,7 @@ use Rattle.body_walk.specs.Standing.{part}
 pub record Tabled (P : Plan) (tables scratch : List ℤ) : Type 0 where
   pub plan : Planned P
   pub values : tablesLegal (P .settings) tables ≡ true
-  pub area : stride * P .settings .image .nz ≤ length tables
+  pub area : tableStride * P .settings .image .nz ≤ length tables
   pub long : scratchStride * P .settings .image .nz ≤ length scratch
 
 -- the first n bands stand before their first values

@@ -8,7 +8,7 @@ use settings::legal::limited;
 use settings::legal::sample_count;
 use settings::legal::settings_legal;
 use settings::tables::SCRATCH_STRIDE;
-use settings::tables::STRIDE;
+use settings::tables::TABLE_STRIDE;
 ghost use mathlib.Core.Path.{_≡_};
 ghost use Rattle.settings.specs.Checks.{areasShort, checkPack};
 
@@ -17,7 +17,7 @@ pub fn areas_short(s: Settings, scratch: usize, tables: usize) -> bool
     ensures { λ r. ⌜ r ≡ areasShort s scratch tables ⌝ }
 {
     let bands = s.image.nz as usize;
-    (scratch < SCRATCH_STRIDE * bands) | (tables < STRIDE * bands)
+    (scratch < SCRATCH_STRIDE * bands) | (tables < TABLE_STRIDE * bands)
 }
 
 // All that the writer tests before it makes a file. Both sizes are looked at once the plain settings are legal: then they fit.

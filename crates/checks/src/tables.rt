@@ -4,15 +4,15 @@ use settings::Image;
 use settings::Predictor;
 use settings::Settings;
 use settings::range::power;
-use settings::tables::ACCUMULATOR_SLOT;
-use settings::tables::STRIDE;
+use settings::tables::PARAMETER_SLOT;
+use settings::tables::TABLE_STRIDE;
 use settings::tables::component_count;
 ghost use mathlib.Core.Path.{_≡_};
 ghost use mathlib.Core.Bool.{true, not, _||_};
 ghost use Prim.Native.Nat.{_+_, _*_, _≤_};
 ghost use lib.ListN.{length};
 ghost use Rattle.settings.specs.Legal.{settingsLegal};
-ghost use Rattle.settings.specs.Tables.{stride, accumulatorSlot, entry, componentCount, every, weightLegal, accumulatorLegal, bandLegal, tablesLegal};
+ghost use Rattle.settings.specs.Tables.{tableStride, parameterSlot, entry, componentCount, every, weightLegal, accumulatorLegal, bandLegal, tablesLegal};
 
 // v is a signed number of q bits.
 fn weight_legal(q: u32, v: i32) -> bool
@@ -37,11 +37,11 @@ fn accumulator_legal(depth: u32, v: i32) -> bool
 fn weights_legal(q: u32, tables: &[i32], z: usize, count: usize) -> bool
     requires { ⌜ 1 ≤ q ⌝ }
     requires { ⌜ q ≤ 31 ⌝ }
-    requires { ⌜ count ≤ accumulatorSlot ⌝ }
-    requires { ⌜ stride * (z + 1) ≤ length (now tables) ⌝ }
+    requires { ⌜ count ≤ parameterSlot ⌝ }
+    requires { ⌜ tableStride * (z + 1) ≤ length (now tables) ⌝ }
     ensures { λ r. ⌜ r ≡ every count (λ i. weightLegal q (entry (now (tables .entry)) z i)) ⌝ }
 {
-    let base = STRIDE * z;
+    let base = TABLE_STRIDE * z;
     let mut i = 0;
     while i < count {
         let at = base + i;
@@ -57,7 +57,7 @@ fn weights_legal(q: u32, tables: &[i32], z: usize, count: usize) -> bool
 fn custom_legal(p: Predictor, tables: &[i32], z: usize) -> bool
     requires { ⌜ p .bands ≤ 15 ⌝ }
     requires { ⌜ (p .custom ≡ true → (1 ≤ p .precision) × (p .precision ≤ 31)) ⌝ }
-    requires { ⌜ stride * (z + 1) ≤ length (now tables) ⌝ }
+    requires { ⌜ tableStride * (z + 1) ≤ length (now tables) ⌝ }
     ensures { λ r. ⌜ r ≡ (not (p .custom) || every (componentCount p z) (λ i. weightLegal (p .precision) (entry (now (tables .entry)) z i))) ⌝ }
 {
     if !p.custom {
@@ -71,20 +71,20 @@ fn custom_legal(p: Predictor, tables: &[i32], z: usize) -> bool
 fn tabled_legal(i: Image, c: Coder, tables: &[i32], z: usize) -> bool
     requires { ⌜ 2 ≤ i .depth ⌝ }
     requires { ⌜ i .depth ≤ 16 ⌝ }
-    requires { ⌜ stride * (z + 1) ≤ length (now tables) ⌝ }
-    ensures { λ r. ⌜ r ≡ (not (c .tabled) || accumulatorLegal (i .depth) (entry (now (tables .entry)) z accumulatorSlot)) ⌝ }
+    requires { ⌜ tableStride * (z + 1) ≤ length (now tables) ⌝ }
+    ensures { λ r. ⌜ r ≡ (not (c .tabled) || accumulatorLegal (i .depth) (entry (now (tables .entry)) z parameterSlot)) ⌝ }
 {
     if !c.tabled {
         return true;
     }
-    let at = STRIDE * z + ACCUMULATOR_SLOT;
+    let at = TABLE_STRIDE * z + PARAMETER_SLOT;
     accumulator_legal(i.depth, tables[at])
 }
 
 // The values of band z that the settings use.
 fn band_legal(s: Settings, tables: &[i32], z: usize) -> bool
     requires { ⌜ settingsLegal s ≡ true ⌝ }
-    requires { ⌜ stride * (z + 1) ≤ length (now tables) ⌝ }
+    requires { ⌜ tableStride * (z + 1) ≤ length (now tables) ⌝ }
     ensures { λ r. ⌜ r ≡ bandLegal s (now (tables .entry)) z ⌝ }
 {
     custom_legal(s.predictor, tables, z) & tabled_legal(s.image, s.coder, tables, z)
@@ -93,7 +93,7 @@ fn band_legal(s: Settings, tables: &[i32], z: usize) -> bool
 // The values of every band that the settings use.
 pub fn tables_legal(s: Settings, tables: &[i32]) -> bool
     requires { ⌜ settingsLegal s ≡ true ⌝ }
-    requires { ⌜ stride * s .image .nz ≤ length (now tables) ⌝ }
+    requires { ⌜ tableStride * s .image .nz ≤ length (now tables) ⌝ }
     ensures { λ r. ⌜ r ≡ tablesLegal s (now (tables .entry)) ⌝ }
 {
     let bands = s.image.nz as usize;

@@ -19,7 +19,7 @@ use Rattle.refusals.specs.ReadingLaws.{passes, no-test}
 use Rattle.settings.specs.declared.Settings.{Settings}
 use Rattle.settings.specs.Legal.{sampleCount, settingsLegal, limited}
 use Rattle.settings.specs.LegalLaws.{legal-settings, limited-facts, count-fits}
-use Rattle.settings.specs.Tables.{stride, tablesLegal}
+use Rattle.settings.specs.Tables.{tableStride, tablesLegal}
 use Rattle.settings.specs.Checks.{areasShort}
 use Rattle.settings.specs.CheckLaws.{Roomy, roomy-of}
 use Rattle.header.specs.Read.{Header, readHeader}
@@ -275,13 +275,13 @@ module _ (bytes : List ℕ) (scratch tables image : List ℤ) (S : Settings) (at
   h = b .header
 
   abbrev m : ℕ
-  m = stride * S .image .nz
+  m = tableStride * S .image .nz
 
   h-is : HeaderIs h (unpack bytes) (drop at (unpack bytes))
   h-is = read-header (unpack bytes) (drop at (unpack bytes)) h (b .read)
 
   h-long : length (h .tables) ≡ m
-  h-long = h-is .long ∙ ap (λ (T : Settings). stride * T .image .nz) (b .settings)
+  h-long = h-is .long ∙ ap (λ (T : Settings). tableStride * T .image .nz) (b .settings)
 
   h-entries : tablesLegal S (h .tables) ≡ true
   h-entries = ap (λ (T : Settings). tablesLegal T (h .tables)) (sym (b .settings)) ∙ h-is .entries

@@ -16,7 +16,7 @@ use Rattle.refusals.specs.RefusalLaws as table
 use Rattle.refusals.specs.Reading.{Read, refused}
 use Rattle.settings.specs.declared.Settings.{Settings}
 use Rattle.settings.specs.Legal.{settingsLegal, sampleCount}
-use Rattle.settings.specs.Tables.{stride, scratchStride}
+use Rattle.settings.specs.Tables.{tableStride, scratchStride}
 use Rattle.settings.specs.Checks.{areasShort}
 use Rattle.settings.specs.Fine.{Fine, Roomy}
 use Rattle.header.specs.Parts.{usedImage}
@@ -155,7 +155,7 @@ opens-packed {S} {tables} {samples} {scratch} {out} {o} {n} p m q =
 -- the look shows the settings of a file that was packed, those that open answers, and refuses as open does
 pub look-packed : (S : Settings) (tables samples : List ℤ) {r : Opened} → Allowed S tables samples → Looks (file S tables samples) r → r ≡ opening.Settings (usedSettings S)
 look-packed S tables samples a p =
-    let lent : Lent = record { scratch = scratchStride * S .image .nz; tables = stride * S .image .nz; image = sampleCount (S .image) } in
+    let lent : Lent = record { scratch = scratchStride * S .image .nz; tables = tableStride * S .image .nz; image = sampleCount (S .image) } in
     let m : Enough S lent = record { image = omega arith; areas = record { scratch-holds = omega arith; tables-hold = omega arith } } in
     p .answer ∙ looked-opened lent (file S tables samples) _ _ (opened-file S tables samples lent (a .legal) (a .within) (a .entries) (a .good) m)
 
@@ -187,7 +187,7 @@ opens-exactly {bytes} {scratch} {area} {image} b p = (
 -- "One image, one file": two files that opened to the same settings, table values and samples are equal
 pub one-image-one-file : {b b′ : List ℕ} {S : Settings} {scratch area image scratch′ area′ image′ t i t′ i′ : List ℤ} → Bytes b → Bytes b′
     → Opens b scratch area image (opening.Settings S) t i → Opens b′ scratch′ area′ image′ (opening.Settings S) t′ i′
-    → take (stride * S .image .nz) t ≡ take (stride * S .image .nz) t′ → take (sampleCount (S .image)) i ≡ take (sampleCount (S .image)) i′ → b ≡ b′
+    → take (tableStride * S .image .nz) t ≡ take (tableStride * S .image .nz) t′ → take (sampleCount (S .image)) i ≡ take (sampleCount (S .image)) i′ → b ≡ b′
 one-image-one-file {S = S} g g′ p p′ e f =
     let d = opens-file g p S refl .2 in
     let d′ = opens-file g′ p′ S refl .2 in
@@ -196,7 +196,7 @@ one-image-one-file {S = S} g g′ p p′ e f =
 -- and under a packer's choice of settings, whatever M, Q, K and the slots are where they are not used, the file is the one that is packed
 pub one-choice-one-file : {b : List ℕ} {scratch area image t i : List ℤ} (S : Settings) (tables samples : List ℤ) → settingsLegal S ≡ true → Bytes b
     → Opens b scratch area image (opening.Settings (usedSettings S)) t i
-    → take (stride * S .image .nz) t ≡ usedTables S tables → take (sampleCount (S .image)) i ≡ samples → b ≡ file S tables samples
+    → take (tableStride * S .image .nz) t ≡ usedTables S tables → take (sampleCount (S .image)) i ≡ samples → b ≡ file S tables samples
 unfolding usedSettings usedImage sampleCount
 one-choice-one-file S tables samples legal g p e f =
     let d = opens-file g p (usedSettings S) refl .2 in

@@ -18,7 +18,7 @@ use Rattle.settings.specs.Legal.{sampleCount, settingsLegal, limited}
 use Rattle.settings.specs.LegalLaws.{legal-settings}
 use Rattle.settings.specs.Range.{lowest, highest, inRange}
 use Rattle.settings.specs.RangeLaws.{zero-in-range}
-use Rattle.settings.specs.Tables.{stride, entry, tablesLegal}
+use Rattle.settings.specs.Tables.{tableStride, entry, tablesLegal}
 use Rattle.settings.specs.TableLaws.{components-fit}
 use Rattle.header.specs.Fields.{same}
 use Rattle.header.specs.FieldLaws.{same-refl, same-true}
@@ -91,7 +91,7 @@ pub record FileOf (c : Cube) (bits : List Bool) : Type 0 where
   pub samples : Good (c .settings) (c .samples)
   pub used-settings : usedSettings (c .settings) ≡ c .settings
   pub used-tables : usedTables (c .settings) (c .tables) ≡ c .tables
-  pub long : length (c .tables) ≡ stride * c .settings .image .nz
+  pub long : length (c .tables) ≡ tableStride * c .settings .image .nz
   pub same : bits ≡ fileBits (c .settings) (c .tables) (c .samples)
 
 -- ---- settings that are none do not matter here

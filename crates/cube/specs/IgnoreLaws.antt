@@ -15,7 +15,7 @@ use Rattle.refusals.specs.declared.Refusal.the-variants.{IllegalSetting}
 use Rattle.settings.specs.Legal.{settingsLegal, limited, sampleCount}
 use Rattle.settings.specs.LegalLaws.{legal-settings}
 use Rattle.settings.specs.Range.{firstOut}
-use Rattle.settings.specs.Tables.{stride, accumulatorSlot, entry, componentCount, every, weightLegal, accumulatorLegal, bandLegal, tablesLegal}
+use Rattle.settings.specs.Tables.{tableStride, parameterSlot, entry, componentCount, every, weightLegal, accumulatorLegal, bandLegal, tablesLegal}
 use Rattle.settings.specs.TableLaws.{components-fit}
 use Rattle.refusals.specs.Tests.{firstHit}
 use Rattle.settings.specs.Checks.{areasShort, checkPack}
@@ -51,18 +51,18 @@ tables-kept S tables few =
     (where-set (S .predictor .custom) _ _ (λ c. every-same (componentCount (S .predictor) z) _ _ (λ i l. ap (weightLegal (S .predictor .precision)) (weight-used S tables fit kept z i h c l))))
     (where-set (S .coder .tabled) _ _ (λ c. ap (accumulatorLegal (S .image .depth)) (accumulator-used S tables fit kept z h c))))
   where
-    fit : (z : ℕ) → componentCount (S .predictor) z ≤ accumulatorSlot
+    fit : (z : ℕ) → componentCount (S .predictor) z ≤ parameterSlot
     fit z = components-fit (S .predictor) z few
 
-    kept : (z i : ℕ) → z < S .image .nz → i < stride → entry (usedTables S tables) z i ≡ cond (used S z i) (entry tables z i) (pos 0)
+    kept : (z i : ℕ) → z < S .image .nz → i < tableStride → entry (usedTables S tables) z i ≡ cond (used S z i) (entry tables z i) (pos 0)
     kept z i = entry-slots S (entry tables) z i
 
 -- what stands behind the slots of Nz bands is not used
-pub tables-front : (S : Settings) (tables rest : List ℤ) → length tables ≡ stride * S .image .nz → usedTables S (tables ++ rest) ≡ usedTables S tables
+pub tables-front : (S : Settings) (tables rest : List ℤ) → length tables ≡ tableStride * S .image .nz → usedTables S (tables ++ rest) ≡ usedTables S tables
 unfolding usedTables entry
 tables-front S tables rest l =
     slots-ext S _ _ (λ z i h k _.
-    List·getD-append tables rest (pos 0) (stride * z + i) (let m : stride * suc z ≤ stride * S .image .nz = mul-le-mul-left stride h in let s = mul-suc stride z in omega arith))
+    List·getD-append tables rest (pos 0) (tableStride * z + i) (let m : tableStride * suc z ≤ tableStride * S .image .nz = mul-le-mul-left tableStride h in let s = mul-suc tableStride z in omega arith))
 
 -- ---- the file
 

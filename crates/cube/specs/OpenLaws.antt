@@ -12,7 +12,7 @@ use Rattle.settings.specs.declared.Settings.{Settings}
 use Rattle.refusals.specs.declared.Refusal.{Refusal}
 use Rattle.settings.specs.Legal.{sampleCount}
 use Rattle.settings.specs.LegalLaws.{legal-settings}
-use Rattle.settings.specs.Tables.{stride, scratchStride, tablesLegal}
+use Rattle.settings.specs.Tables.{tableStride, scratchStride, tablesLegal}
 use Rattle.settings.specs.Fine.{Fine}
 use Rattle.refusals.specs.Reading.{Read, got, refused}
 use Rattle.header.specs.Tables.{usedTables}
@@ -78,8 +78,8 @@ opens-file {bytes} {scratch} {area} {image} {r} {t} {i} o p S e =
 -- ---- what the areas hold
 
 module _ {bytes : List ℕ} {S : Settings} {tables samples area image t i : List ℤ} (d : OpenedTo bytes S tables samples area image t i) where
-  pub tables-held : take (stride * S .image .nz) t ≡ tables
-  tables-held = ap (take (stride * S .image .nz)) (d .tables-are) ∙ take-at tables _ (stride * S .image .nz) (d .long)
+  pub tables-held : take (tableStride * S .image .nz) t ≡ tables
+  tables-held = ap (take (tableStride * S .image .nz)) (d .tables-are) ∙ take-at tables _ (tableStride * S .image .nz) (d .long)
 
   pub samples-held : take (sampleCount (S .image)) i ≡ samples
   samples-held = ap (take (sampleCount (S .image))) (d .samples-are) ∙ take-at samples _ (sampleCount (S .image)) (d .allowed .good .long)

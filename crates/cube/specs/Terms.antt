@@ -7,7 +7,7 @@ use lib.IntN.{ℤ}
 use lib.ListN.{length}
 use Rattle.settings.specs.declared.Settings.{Settings}
 use Rattle.settings.specs.Legal.{settingsLegal, limited, sampleCount}
-use Rattle.settings.specs.Tables.{stride, tablesLegal}
+use Rattle.settings.specs.Tables.{tableStride, tablesLegal}
 use Rattle.settings.specs.Fine.{Roomy}
 use Rattle.header.specs.Tables.{usedTables}
 use Rattle.header.specs.Write.{usedSettings}
@@ -34,7 +34,7 @@ pub record OpenedTo (bytes : List ℕ) (S : Settings) (tables samples area image
   pub allowed : Allowed S tables samples
   pub named : usedSettings S ≡ S
   pub used : usedTables S tables ≡ tables
-  pub long : length tables ≡ stride * S .image .nz
+  pub long : length tables ≡ tableStride * S .image .nz
   pub tables-are : t ≡ filledFrom tables area
   pub samples-are : i ≡ filledFrom samples image
   pub file-is : file S tables samples ≡ bytes

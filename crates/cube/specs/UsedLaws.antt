@@ -11,7 +11,7 @@ use Rattle.settings.specs.declared.Image as declared
 use Rattle.settings.specs.declared.Settings.{Settings}
 use Rattle.settings.specs.Lists.{join, one}
 use Rattle.settings.specs.Range.{lowest, highest, middle}
-use Rattle.settings.specs.Tables.{stride, accumulatorSlot, entry, backward, componentCount}
+use Rattle.settings.specs.Tables.{tableStride, parameterSlot, entry, backward, componentCount}
 use Rattle.predictor.specs.Differences.{Image, imageOf, componentsAt}
 use Rattle.predictor.specs.Weights.{customWeight, initialWeights}
 use Rattle.predictor.specs.Prediction.{scaledPrediction, firstPrediction}
@@ -52,8 +52,8 @@ join-same f g a (suc n) h =
     let t = join-same f g (suc a) n (λ i k l. h i (omega arith) (omega arith)) in
     cc
 
-module _ (S : Settings) (tables : List ℤ) (few : (z : ℕ) → componentCount (S .predictor) z ≤ accumulatorSlot)
-    (entry-used : (z i : ℕ) → z < S .image .nz → i < stride → entry (usedTables S tables) z i ≡ cond (used S z i) (entry tables z i) (pos 0)) where
+module _ (S : Settings) (tables : List ℤ) (few : (z : ℕ) → componentCount (S .predictor) z ≤ parameterSlot)
+    (entry-used : (z i : ℕ) → z < S .image .nz → i < tableStride → entry (usedTables S tables) z i ≡ cond (used S z i) (entry tables z i) (pos 0)) where
   abbrev S′ : Settings
   S′ = usedSettings S
 
@@ -67,12 +67,12 @@ module _ (S : Settings) (tables : List ℤ) (few : (z : ℕ) → componentCount 
       let u : used S z i ≡ true = cc in
       entry-used z i h (omega (arith, few z)) ∙ if-true (used S z i) (entry tables z i) (pos 0) u
 
-  pub accumulator-used : (z : ℕ) → z < S .image .nz → S .coder .tabled ≡ true → entry tables′ z accumulatorSlot ≡ entry tables z accumulatorSlot
+  pub accumulator-used : (z : ℕ) → z < S .image .nz → S .coder .tabled ≡ true → entry tables′ z parameterSlot ≡ entry tables z parameterSlot
   unfolding used
   accumulator-used z h c =
-      let o = or-true (S .predictor .custom && ltb accumulatorSlot (componentCount (S .predictor) z)) in
-      let u : used S z accumulatorSlot ≡ true = cc in
-      entry-used z accumulatorSlot h (omega arith) ∙ if-true (used S z accumulatorSlot) (entry tables z accumulatorSlot) (pos 0) u
+      let o = or-true (S .predictor .custom && ltb parameterSlot (componentCount (S .predictor) z)) in
+      let u : used S z parameterSlot ≡ true = cc in
+      entry-used z parameterSlot h (omega arith) ∙ if-true (used S z parameterSlot) (entry tables z parameterSlot) (pos 0) u
 
   initial-weights-used : (z : ℕ) → z < S .image .nz → initialWeights S′ tables′ z ≡ initialWeights S tables z
   unfolding initialWeights usedSettings usedPredictor componentCount backward

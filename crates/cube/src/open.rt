@@ -13,7 +13,7 @@ use header_values::store::store_tables;
 use refusals::Refusal;
 use settings::Settings;
 use settings::legal::sample_count;
-use settings::tables::STRIDE;
+use settings::tables::TABLE_STRIDE;
 ghost use mathlib.Core.Path.{_≡_};
 ghost use mathlib.Core.Bool.{true};
 ghost use Rattle.bitstream.specs.Stream.{unpack};
@@ -64,7 +64,7 @@ fn open_body(
     ensures { λ r. ⌜ Opens (now (file .entry)) (now (scratch .entry)) (now (tables .entry)) (now (image .entry)) r (now (tables .exit)) (now (image .exit)) ⌝ }
 {
     let count = sample_count(s.image) as usize;
-    let entries = STRIDE * (s.image.nz as usize);
+    let entries = TABLE_STRIDE * (s.image.nz as usize);
     store_tables(file, s, &mut *tables);
     clear_slots(&mut image[..count]);
     let p = plan_of(s);

@@ -19,7 +19,7 @@ use Rattle.refusals.specs.RefusalLaws.{refusals-closed}
 use Rattle.refusals.specs.Calls.{among, lengthRefuses, packRefuses, openRefuses, lookRefuses}
 use Rattle.settings.specs.declared.Settings.{Settings}
 use Rattle.settings.specs.Legal.{sampleCount}
-use Rattle.settings.specs.Tables.{stride, scratchStride}
+use Rattle.settings.specs.Tables.{tableStride, scratchStride}
 use Rattle.settings.specs.Fine.{Fine}
 use Rattle.header.specs.Tables.{usedTables}
 use Rattle.header.specs.Write.{usedSettings}
@@ -320,7 +320,7 @@ c-look-opened {bytes} {slots = slots} {slots′} p z l h =
 pub c-one-image-one-file : {b b′ : List ℕ} {scratch area image slots scratch′ area′ image′ slots′ : List ℤ} {r r′ : ℕ} {t i s t′ i′ s′ : List ℤ} → Bytes b → Bytes b′
     → COpens b scratch area image slots r t i s → COpens b′ scratch′ area′ image′ slots′ r′ t′ i′ s′ → numberIn r ≡ 0 → numberIn r′ ≡ 0
     → settingsFrom s ≡ settingsFrom s′
-    → take (stride * settingsFrom s .image .nz) t ≡ take (stride * settingsFrom s .image .nz) t′
+    → take (tableStride * settingsFrom s .image .nz) t ≡ take (tableStride * settingsFrom s .image .nz) t′
     → take (sampleCount (settingsFrom s .image)) i ≡ take (sampleCount (settingsFrom s .image)) i′ → b ≡ b′
 c-one-image-one-file {b′ = b′} {scratch′ = scratch′} {area′ = area′} {image′ = image′} {t = t} {i} {s} {t′ = t′} {i′} {s′} g g′ p p′ z z′ e et ei =
     let k = c-opens-success p z in
@@ -329,7 +329,7 @@ c-one-image-one-file {b′ = b′} {scratch′ = scratch′} {area′ = area′}
     let n′ : settingsFrom s′ ≡ k′ .0 = slots-name (k′ .0) _ s′ (opens-file g′ (k′ .1) (k′ .0) refl .2 .named) (k′ .3) in
     one-image-one-file g g′ (k .1)
     (subst (λ (S : Settings). Opens b′ scratch′ area′ image′ (opening.Settings S) t′ i′) (sym n′ ∙ sym e ∙ n) (k′ .1))
-    (subst (λ (S : Settings). take (stride * S .image .nz) t ≡ take (stride * S .image .nz) t′) n et)
+    (subst (λ (S : Settings). take (tableStride * S .image .nz) t ≡ take (tableStride * S .image .nz) t′) n et)
     (subst (λ (S : Settings). take (sampleCount (S .image)) i ≡ take (sampleCount (S .image)) i′) n ei)
 
 -- "Packing again what was opened gives the same bytes": from the slots, the table area and the samples as `remulingka_open` left them

@@ -24,7 +24,7 @@ use Rattle.settings.specs.ListLaws.{length-join-same}
 use Rattle.settings.specs.Legal.{settingsLegal, imageLegal, predictorLegal, coderLegal}
 use Rattle.settings.specs.Limits.{mostBands}
 use Rattle.settings.specs.LegalLaws.{LegalSettings, LegalPredictor, Power, legal-settings, limited-facts}
-use Rattle.settings.specs.Tables.{stride, accumulatorSlot, entry, componentCount, weightLegal, accumulatorLegal, every, bandLegal}
+use Rattle.settings.specs.Tables.{tableStride, parameterSlot, entry, componentCount, weightLegal, accumulatorLegal, every, bandLegal}
 use Rattle.settings.specs.TableLaws.{components-fit, legal-tables, weight-legal, accumulator-legal}
 use Rattle.header.specs.Parts.{exponentOf}
 use Rattle.header.specs.PartLaws.{exponent-power, ≤ℤ-trans}
@@ -57,8 +57,8 @@ module _ (S : Settings) (tables : List ℤ) (w : Writable S tables) (z : ℕ) (h
   pub weight-at : (i : ℕ) → S .predictor .custom ≡ true → i < componentCount (S .predictor) z → weightLegal (S .predictor .precision) (entry tables z i) ≡ true
   weight-at i c k = let l = legal-tables S tables (w .entries) z h .weights c i k in weight-legal (S .predictor .precision) (entry tables z i) (l .least) (l .most)
 
-  pub accumulator-at : S .coder .tabled ≡ true → accumulatorLegal (S .image .depth) (entry tables z accumulatorSlot) ≡ true
-  accumulator-at c = accumulator-legal (S .image .depth) (entry tables z accumulatorSlot) (legal-tables S tables (w .entries) z h .accumulator c)
+  pub accumulator-at : S .coder .tabled ≡ true → accumulatorLegal (S .image .depth) (entry tables z parameterSlot) ≡ true
+  accumulator-at c = accumulator-legal (S .image .depth) (entry tables z parameterSlot) (legal-tables S tables (w .entries) z h .accumulator c)
 
 pub record Narrow (S : Settings) (z : ℕ) : Type 0 where
   pub least : 1 ≤ S .predictor .precision

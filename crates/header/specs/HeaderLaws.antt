@@ -16,7 +16,7 @@ use Rattle.settings.specs.declared.Settings.{Settings}
 use Rattle.settings.specs.Lists.{join}
 use Rattle.settings.specs.Legal.{imageLegal, predictorLegal, coderLegal, settingsLegal, limited}
 use Rattle.settings.specs.LegalLaws.{legal-settings}
-use Rattle.settings.specs.Tables.{stride, entry, backward, componentCount, every, weightLegal, bandLegal, tablesLegal}
+use Rattle.settings.specs.Tables.{tableStride, entry, backward, componentCount, every, weightLegal, bandLegal, tablesLegal}
 use Rattle.settings.specs.TableLaws.{legal-tables}
 use Rattle.settings.specs.Truths.{parts, whole}
 use Rattle.header.specs.Fields.{fields}
@@ -150,7 +150,7 @@ pub record HeaderIs (h : Header) (l r : List Bool) : Type 0 where
   pub same : l ≡ header (h .settings) (h .tables) ++ r
   pub settings : usedSettings (h .settings) ≡ h .settings
   pub tables : usedTables (h .settings) (h .tables) ≡ h .tables
-  pub long : length (h .tables) ≡ stride * h .settings .image .nz
+  pub long : length (h .tables) ≡ tableStride * h .settings .image .nz
 
 -- the parts that were read, put together
 module _ (I : Image) (P : Predictor) (C : Coder) (weights accumulators : List Bool) where

@@ -24,7 +24,7 @@ use Rattle.settings.specs.declared.Coder.{Coder}
 use Rattle.settings.specs.declared.Settings.{Settings}
 use Rattle.settings.specs.Legal.{imageLegal, predictorLegal, coderLegal, limited}
 use Rattle.settings.specs.LegalLaws.{legal-image, legal-predictor, legal-coder}
-use Rattle.settings.specs.Tables.{accumulatorSlot, entry, backward, componentCount, every}
+use Rattle.settings.specs.Tables.{parameterSlot, entry, backward, componentCount, every}
 use Rattle.settings.specs.TableLaws.{every-at, every-of}
 use Rattle.header.specs.Fields.{fields, split, same}
 use Rattle.header.specs.Parts.{imageFields, imageWidths, imageOf, coderType, predictorFields, predictorWidths, predictorOf, coderFields, coderWidths, coderOf, usedImage, usedPredictor, usedCoder, imageBits, predictorBits, coderBits}
@@ -225,7 +225,7 @@ read-weights I P l r t e = go (P .custom) refl e
 -- ---- the table of k', where there is one
 
 pub accumulators-read : (S : Settings) (tables : List ℤ) (r : List Bool) → S .image .depth ≤ 16
-    → (S .coder .tabled ≡ true → (z : ℕ) → z < S .image .nz → natAbs (entry tables z accumulatorSlot) ≤ S .image .depth - 2)
+    → (S .coder .tabled ≡ true → (z : ℕ) → z < S .image .nz → natAbs (entry tables z parameterSlot) ≤ S .image .depth - 2)
     → readAccumulators (usedImage (S .image)) (usedCoder (S .coder)) (accumulatorPart S tables ++ r) ≡ got (cond (S .coder .tabled) (accumulatorTable (S .image .nz) tables) []) r
 unfolding readAccumulators accumulatorPart usedImage usedCoder
 accumulators-read S tables r d h = go (S .coder .tabled) h
@@ -239,7 +239,7 @@ accumulators-read S tables r d h = go (S .coder .tabled) h
     test : List Bool → Bool
     test table = every (I .nz) (λ z. leb (numberAt 4 table z) (I .depth - 2))
 
-    go : (b : Bool) → (b ≡ true → (z : ℕ) → z < I .nz → natAbs (entry tables z accumulatorSlot) ≤ I .depth - 2)
+    go : (b : Bool) → (b ≡ true → (z : ℕ) → z < I .nz → natAbs (entry tables z parameterSlot) ≤ I .depth - 2)
         → cond b (readTable (4 * I .nz) test (cond b (filled 8 t) [] ++ r)) (got [] (cond b (filled 8 t) [] ++ r)) ≡ got (cond b t []) r
     go true k =
         table-read (4 * I .nz) test t r (length-accumulators (I .nz) tables)

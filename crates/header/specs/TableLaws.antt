@@ -19,7 +19,7 @@ use Rattle.settings.specs.declared.Predictor.{Predictor}
 use Rattle.settings.specs.declared.Settings.{Settings}
 use Rattle.settings.specs.Lists.{join, one, sumBelow}
 use Rattle.settings.specs.ListLaws.{sumBelow-ext, sumBelow-scaled, sumBelow-same, sumBelow-holds, join-at, join-ext, length-join, length-join-same, getD-join-same, length-ones, getD-ones, join-parts}
-use Rattle.settings.specs.Tables.{stride, accumulatorSlot, entry, componentCount, weightLegal, tablesLegal}
+use Rattle.settings.specs.Tables.{tableStride, parameterSlot, entry, componentCount, weightLegal, tablesLegal}
 use Rattle.settings.specs.LegalLaws.{LegalSettings}
 use Rattle.settings.specs.TableLaws.{components-fit, legal-weight, weight-legal, legal-tables, tables-legal}
 use Rattle.settings.specs.Truths.{or-cases}
@@ -148,25 +148,25 @@ module _ (q : ℕ) (C : ℕ → ℕ) where
 
 -- ---- the table area
 
-pub length-slots : (S : Settings) (f : ℕ → ℕ → ℤ) → length (slots S f) ≡ stride * S .image .nz
+pub length-slots : (S : Settings) (f : ℕ → ℕ → ℤ) → length (slots S f) ≡ tableStride * S .image .nz
 unfolding slots
 length-slots S f =
-    length-join-same (λ z. join (λ i. one (cond (used S z i) (f z i) (pos 0))) 0 stride) (S .image .nz) stride
-    (λ z. length-ones (λ i. cond (used S z i) (f z i) (pos 0)) stride)
+    length-join-same (λ z. join (λ i. one (cond (used S z i) (f z i) (pos 0))) 0 tableStride) (S .image .nz) tableStride
+    (λ z. length-ones (λ i. cond (used S z i) (f z i) (pos 0)) tableStride)
 
-pub entry-slots : (S : Settings) (f : ℕ → ℕ → ℤ) (z i : ℕ) → z < S .image .nz → i < stride → entry (slots S f) z i ≡ cond (used S z i) (f z i) (pos 0)
+pub entry-slots : (S : Settings) (f : ℕ → ℕ → ℤ) (z i : ℕ) → z < S .image .nz → i < tableStride → entry (slots S f) z i ≡ cond (used S z i) (f z i) (pos 0)
 unfolding entry slots
 entry-slots S f z i h k =
-    getD-join-same (λ z. join (λ i. one (cond (used S z i) (f z i) (pos 0))) 0 stride) (S .image .nz) stride z i (pos 0)
-    (λ z. length-ones (λ i. cond (used S z i) (f z i) (pos 0)) stride) h k
-    ∙ getD-ones (λ i. cond (used S z i) (f z i) (pos 0)) stride i (pos 0) k
+    getD-join-same (λ z. join (λ i. one (cond (used S z i) (f z i) (pos 0))) 0 tableStride) (S .image .nz) tableStride z i (pos 0)
+    (λ z. length-ones (λ i. cond (used S z i) (f z i) (pos 0)) tableStride) h k
+    ∙ getD-ones (λ i. cond (used S z i) (f z i) (pos 0)) tableStride i (pos 0) k
 
-pub slots-ext : (S : Settings) (f g : ℕ → ℕ → ℤ) → ((z i : ℕ) → z < S .image .nz → i < stride → used S z i ≡ true → f z i ≡ g z i) → slots S f ≡ slots S g
+pub slots-ext : (S : Settings) (f g : ℕ → ℕ → ℤ) → ((z i : ℕ) → z < S .image .nz → i < tableStride → used S z i ≡ true → f z i ≡ g z i) → slots S f ≡ slots S g
 unfolding slots
 slots-ext S f g h =
-    join-ext (λ z. join (λ i. one (cond (used S z i) (f z i) (pos 0))) 0 stride) (λ z. join (λ i. one (cond (used S z i) (g z i) (pos 0))) 0 stride) (S .image .nz)
+    join-ext (λ z. join (λ i. one (cond (used S z i) (f z i) (pos 0))) 0 tableStride) (λ z. join (λ i. one (cond (used S z i) (g z i) (pos 0))) 0 tableStride) (S .image .nz)
     (λ z l.
-    join-ext (λ i. one (cond (used S z i) (f z i) (pos 0))) (λ i. one (cond (used S z i) (g z i) (pos 0))) stride
+    join-ext (λ i. one (cond (used S z i) (f z i) (pos 0))) (λ i. one (cond (used S z i) (g z i) (pos 0))) tableStride
     (λ i k. ap (λ (x : ℤ). one x) (go (used S z i) (f z i) (g z i) (h z i l k))))
   where
     go : (b : Bool) (x y : ℤ) → (b ≡ true → x ≡ y) → cond b x (pos 0) ≡ cond b y (pos 0)
@@ -174,7 +174,7 @@ slots-ext S f g h =
     go false x y e = refl
 
 -- what is read off the area is what was put there
-pub entry-used : (S : Settings) (f : ℕ → ℕ → ℤ) (z i : ℕ) → z < S .image .nz → i < stride → used S z i ≡ true → entry (slots S f) z i ≡ f z i
+pub entry-used : (S : Settings) (f : ℕ → ℕ → ℤ) (z i : ℕ) → z < S .image .nz → i < tableStride → used S z i ≡ true → entry (slots S f) z i ≡ f z i
 entry-used S f z i h k u = entry-slots S f z i h k ∙ rw u
 
 pub slots-again : (S : Settings) (f : ℕ → ℕ → ℤ) → slots S (entry (slots S f)) ≡ slots S f
@@ -188,7 +188,7 @@ pub tables-of-used : (S : Settings) (weights accumulators : List Bool) → usedT
 unfolding usedTables tablesOf
 tables-of-used S weights accumulators = slots-again S _
 
-pub length-tables-of : (S : Settings) (weights accumulators : List Bool) → length (tablesOf S weights accumulators) ≡ stride * S .image .nz
+pub length-tables-of : (S : Settings) (weights accumulators : List Bool) → length (tablesOf S weights accumulators) ≡ tableStride * S .image .nz
 unfolding tablesOf
 length-tables-of S weights accumulators = length-slots S _
 
@@ -199,18 +199,18 @@ module _ (S : Settings) (z : ℕ) where
   unfolding used
   used-weight i c h = rw (lt-ltb i (componentCount (S .predictor) z) h, c)
 
-  pub used-accumulator : S .coder .tabled ≡ true → used S z accumulatorSlot ≡ true
+  pub used-accumulator : S .coder .tabled ≡ true → used S z parameterSlot ≡ true
   unfolding used
   used-accumulator t = rw (t, or-true)
 
   -- a slot used holds a weight, or it holds k'
-  pub used-cases : (i : ℕ) → used S z i ≡ true → ((S .predictor .custom ≡ true) × (i < componentCount (S .predictor) z)) ⊎ ((S .coder .tabled ≡ true) × (i ≡ accumulatorSlot))
+  pub used-cases : (i : ℕ) → used S z i ≡ true → ((S .predictor .custom ≡ true) × (i < componentCount (S .predictor) z)) ⊎ ((S .coder .tabled ≡ true) × (i ≡ parameterSlot))
   unfolding used
   used-cases i u =
       ⊎-elim
       (λ e. let k = and-eq-true-iff (S .predictor .custom) (ltb i (componentCount (S .predictor) z)) .0 e in inl (k .0, ltb-true i (componentCount (S .predictor) z) (k .1)))
-      (λ e. let k = and-eq-true-iff (S .coder .tabled) (eqb i accumulatorSlot) .0 e in inr (k .0, eqb-true i accumulatorSlot (k .1)))
-      (or-cases (S .predictor .custom && ltb i (componentCount (S .predictor) z)) (S .coder .tabled && eqb i accumulatorSlot) u)
+      (λ e. let k = and-eq-true-iff (S .coder .tabled) (eqb i parameterSlot) .0 e in inr (k .0, eqb-true i parameterSlot (k .1)))
+      (or-cases (S .predictor .custom && ltb i (componentCount (S .predictor) z)) (S .coder .tabled && eqb i parameterSlot) u)
 
 -- ---- entries written are read
 
@@ -220,7 +220,7 @@ length-weights P nz tables = length-numbers (P .precision) (componentCount P) (�
 
 pub length-accumulators : (nz : ℕ) (tables : List ℤ) → length (accumulatorTable nz tables) ≡ 4 * nz
 unfolding accumulatorTable
-length-accumulators nz tables = length-join-same _ nz 4 (λ z. length-bits 4 (natAbs (entry tables z accumulatorSlot)))
+length-accumulators nz tables = length-join-same _ nz 4 (λ z. length-bits 4 (natAbs (entry tables z parameterSlot)))
 
 weight-read : (P : Predictor) (nz : ℕ) (tables : List ℤ) (z i : ℕ) → z < nz → i < componentCount P z → 0 < P .precision → weightLegal (P .precision) (entry tables z i) ≡ true
     → signedOf (P .precision) (numberAt (P .precision) (weightTable P nz tables) (componentsBefore P z + i)) ≡ entry tables z i
@@ -231,12 +231,12 @@ weight-read P nz tables z i h k p e =
     numbers-read q (componentCount P) (λ z i. twos q (entry tables z i)) nz z i h k ∙ mod-eq-of-lt (twos-lt q (entry tables z i) p e) in
     ap (signedOf q) n ∙ signed-twos q (entry tables z i) p e
 
-pub accumulator-read : (nz : ℕ) (tables : List ℤ) (z : ℕ) → z < nz → natAbs (entry tables z accumulatorSlot) < 2 ^ 4 → numberAt 4 (accumulatorTable nz tables) z ≡ natAbs (entry tables z accumulatorSlot)
+pub accumulator-read : (nz : ℕ) (tables : List ℤ) (z : ℕ) → z < nz → natAbs (entry tables z parameterSlot) < 2 ^ 4 → numberAt 4 (accumulatorTable nz tables) z ≡ natAbs (entry tables z parameterSlot)
 unfolding accumulatorTable
 accumulator-read nz tables z h k =
-    let f : ℕ → List Bool = λ z. bits 4 (natAbs (entry tables z accumulatorSlot)) in
+    let f : ℕ → List Bool = λ z. bits 4 (natAbs (entry tables z parameterSlot)) in
     ap (λ (l : List Bool). numberAt 4 l z) (join-at f nz z h)
-    ∙ number-at 4 z (natAbs (entry tables z accumulatorSlot)) (join f 0 z) (join f (suc z) (nz - suc z)) (length-join-same f z 4 (λ j. length-bits 4 (natAbs (entry tables j accumulatorSlot))))
+    ∙ number-at 4 z (natAbs (entry tables z parameterSlot)) (join f 0 z) (join f (suc z) (nz - suc z)) (length-join-same f z 4 (λ j. length-bits 4 (natAbs (entry tables j parameterSlot))))
     ∙ mod-eq-of-lt k
 
 pub tables-read : (S : Settings) (tables : List ℤ) (weights accumulators : List Bool) → LegalSettings S → tablesLegal S tables ≡ true
@@ -252,7 +252,7 @@ tables-read S tables weights accumulators l e w a =
     (λ c.
     let few = components-fit (S .predictor) z (l .predictor .bands-most) in
     let v = b .weights (c .0) i (c .1) in
-    rw (ne-eqb i accumulatorSlot (λ q. omega (arith, c .1)), w (c .0))
+    rw (ne-eqb i parameterSlot (λ q. omega (arith, c .1)), w (c .0))
     (weight-read (S .predictor) (S .image .nz) tables z i h (c .1) (omega (arith, l .predictor .precise (c .0) .0)) (weight-legal (S .predictor .precision) (entry tables z i) (v .least) (v .most))))
     (λ c.
     let v = b .accumulator (c .0) in
@@ -263,20 +263,20 @@ tables-read S tables weights accumulators l e w a =
 
 module _ (S : Settings) (few : S .predictor .bands ≤ 15) where
   -- slot i of the weights of band z is in the area, and is not that of k'
-  weight-slot : (f : ℕ → ℕ → ℤ) (z i : ℕ) → z < S .image .nz → S .predictor .custom ≡ true → i < componentCount (S .predictor) z → (entry (slots S f) z i ≡ f z i) × (eqb i accumulatorSlot ≡ false)
+  weight-slot : (f : ℕ → ℕ → ℤ) (z i : ℕ) → z < S .image .nz → S .predictor .custom ≡ true → i < componentCount (S .predictor) z → (entry (slots S f) z i ≡ f z i) × (eqb i parameterSlot ≡ false)
   weight-slot f z i h c k =
       let m = components-fit (S .predictor) z few in
-      (entry-used S f z i h (omega arith) (used-weight S z i c k), ne-eqb i accumulatorSlot (λ q. omega arith))
+      (entry-used S f z i h (omega arith) (used-weight S z i c k), ne-eqb i parameterSlot (λ q. omega arith))
 
-  accumulator-slot : (f : ℕ → ℕ → ℤ) (z : ℕ) → z < S .image .nz → S .coder .tabled ≡ true → entry (slots S f) z accumulatorSlot ≡ f z accumulatorSlot
-  accumulator-slot f z h t = entry-used S f z accumulatorSlot h (omega arith) (used-accumulator S z t)
+  accumulator-slot : (f : ℕ → ℕ → ℤ) (z : ℕ) → z < S .image .nz → S .coder .tabled ≡ true → entry (slots S f) z parameterSlot ≡ f z parameterSlot
+  accumulator-slot f z h t = entry-used S f z parameterSlot h (omega arith) (used-accumulator S z t)
 
   weight-of : (weights accumulators : List Bool) (z i : ℕ) → z < S .image .nz → S .predictor .custom ≡ true → i < componentCount (S .predictor) z
       → entry (tablesOf S weights accumulators) z i ≡ signedOf (S .predictor .precision) (numberAt (S .predictor .precision) weights (componentsBefore (S .predictor) z + i))
   unfolding tablesOf
   weight-of weights accumulators z i h c k = let e = weight-slot _ z i h c k in e .0 ∙ rw (e .1)
 
-  accumulator-of : (weights accumulators : List Bool) (z : ℕ) → z < S .image .nz → S .coder .tabled ≡ true → entry (tablesOf S weights accumulators) z accumulatorSlot ≡ pos (numberAt 4 accumulators z)
+  accumulator-of : (weights accumulators : List Bool) (z : ℕ) → z < S .image .nz → S .coder .tabled ≡ true → entry (tablesOf S weights accumulators) z parameterSlot ≡ pos (numberAt 4 accumulators z)
   unfolding tablesOf
   accumulator-of weights accumulators z h t = accumulator-slot _ z h t
 
@@ -322,7 +322,7 @@ module _ (S : Settings) (few : S .predictor .bands ≤ 15) (tables : List ℤ) w
   unfolding usedTables
   weight-kept z i h c k = weight-slot S few (entry tables) z i h c k .0
 
-  accumulator-kept : (z : ℕ) → z < S .image .nz → S .coder .tabled ≡ true → entry (usedTables S tables) z accumulatorSlot ≡ entry tables z accumulatorSlot
+  accumulator-kept : (z : ℕ) → z < S .image .nz → S .coder .tabled ≡ true → entry (usedTables S tables) z parameterSlot ≡ entry tables z parameterSlot
   unfolding usedTables
   accumulator-kept z h t = accumulator-slot S few (entry tables) z h t
 

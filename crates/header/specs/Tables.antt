@@ -9,7 +9,7 @@ use Rattle.bitstream.specs.Stream.{bits, number}
 use Rattle.settings.specs.declared.Predictor.{Predictor}
 use Rattle.settings.specs.declared.Settings.{Settings}
 use Rattle.settings.specs.Lists.{join, one, sumBelow}
-use Rattle.settings.specs.Tables.{stride, accumulatorSlot, entry, componentCount}
+use Rattle.settings.specs.Tables.{tableStride, parameterSlot, entry, componentCount}
 
 -- a signed number of q bits in two's complement
 unfoldable pub twos : ℕ → ℤ → ℕ
@@ -27,7 +27,7 @@ weightTable P nz tables =
 
 -- four bits a band
 unfoldable pub accumulatorTable : ℕ → List ℤ → List Bool
-accumulatorTable nz tables = join (λ z. bits 4 (natAbs (entry tables z accumulatorSlot))) 0 nz
+accumulatorTable nz tables = join (λ z. bits 4 (natAbs (entry tables z parameterSlot))) 0 nz
 
 -- the components of the bands before band z, and so their number up to it
 unfoldable pub componentsBefore : Predictor → ℕ → ℕ
@@ -40,11 +40,11 @@ numberAt w l n = number (take w (drop (w * n) l))
 -- slot i of band z stands in a table of the header
 unfoldable pub used : Settings → ℕ → ℕ → Bool
 used S z i =
-    (S .predictor .custom && ltb i (componentCount (S .predictor) z)) || (S .coder .tabled && eqb i accumulatorSlot)
+    (S .predictor .custom && ltb i (componentCount (S .predictor) z)) || (S .coder .tabled && eqb i parameterSlot)
 
 -- a table area of Nz bands with f in the slots used and zero in the others
 unfoldable pub slots : Settings → (ℕ → ℕ → ℤ) → List ℤ
-slots S f = join (λ z. join (λ i. one (cond (used S z i) (f z i) (pos 0))) 0 stride) 0 (S .image .nz)
+slots S f = join (λ z. join (λ i. one (cond (used S z i) (f z i) (pos 0))) 0 tableStride) 0 (S .image .nz)
 
 -- the area with what the settings do not use as zero
 unfoldable pub usedTables : Settings → List ℤ → List ℤ
@@ -54,5 +54,5 @@ usedTables S tables = slots S (entry tables)
 unfoldable pub tablesOf : Settings → List Bool → List Bool → List ℤ
 tablesOf S weights accumulators =
     slots S (λ z i.
-    cond (eqb i accumulatorSlot) (pos (numberAt 4 accumulators z))
+    cond (eqb i parameterSlot) (pos (numberAt 4 accumulators z))
     (signedOf (S .predictor .precision) (numberAt (S .predictor .precision) weights (componentsBefore (S .predictor) z + i))))

@@ -7,7 +7,7 @@ use lib.IntN.{ℤ}
 use lib.ListN.{length}
 use Rattle.settings.specs.declared.Settings.{Settings}
 use Rattle.settings.specs.Legal.{settingsLegal, limited}
-use Rattle.settings.specs.Tables.{stride, tablesLegal}
+use Rattle.settings.specs.Tables.{tableStride, tablesLegal}
 use Rattle.header.specs.Fields.{Field, _∶_}
 
 -- the settings and the table values that they use can be written
@@ -15,7 +15,7 @@ pub record Writable (S : Settings) (tables : List ℤ) : Type 0 where
   pub legal : settingsLegal S ≡ true
   pub small : limited (S .image) ≡ true
   pub entries : tablesLegal S tables ≡ true
-  pub area : stride * S .image .nz ≤ length tables
+  pub area : tableStride * S .image .nz ≤ length tables
 
 -- fields by their widths and their values
 unfoldable pub fieldsOf : List ℕ → List ℕ → List Field

@@ -10,7 +10,7 @@ ghost use Rattle.bitstream.specs.Writer.{Put};
 ghost use Rattle.settings.specs.Legal.{predictorLegal, coderLegal};
 ghost use Rattle.settings.specs.Limits.{fileCeiling};
 ghost use Rattle.settings.specs.Lists.{join};
-ghost use Rattle.settings.specs.Tables.{accumulatorSlot, entry, componentCount, weightLegal, accumulatorLegal};
+ghost use Rattle.settings.specs.Tables.{parameterSlot, entry, componentCount, weightLegal, accumulatorLegal};
 ghost use Rattle.header.specs.Fields.{fields};
 ghost use Rattle.header.specs.Parts.{imageFields, predictorFields, coderFields, exponentOf};
 ghost use Rattle.header.specs.Tables.{twos, weightTable, accumulatorTable};
@@ -27,8 +27,8 @@ use settings::Image;
 use settings::Predictor;
 use settings::Settings;
 use settings::range::power;
-use settings::tables::ACCUMULATOR_SLOT;
-use settings::tables::STRIDE;
+use settings::tables::PARAMETER_SLOT;
+use settings::tables::TABLE_STRIDE;
 use settings::tables::component_count;
 
 // Table 5-1: M is zero where bands are sequential, and the coder's type is zero.
@@ -153,7 +153,7 @@ fn write_band(t: Tail, out: &mut [u8], s: Settings, tables: &[i32], z: usize) ->
 {
     let q = s.predictor.precision;
     let count = component_count(s.predictor, z);
-    let base = STRIDE * z;
+    let base = TABLE_STRIDE * z;
     let mut tail = t;
     let mut i = 0;
     while i < count {
@@ -211,7 +211,7 @@ fn write_entries(t: Tail, out: &mut [u8], s: Settings, tables: &[i32]) -> Tail
     let mut tail = t;
     let mut z = 0;
     while z < bands {
-        let at = STRIDE * z + ACCUMULATOR_SLOT;
+        let at = TABLE_STRIDE * z + PARAMETER_SLOT;
         tail = put(tail, out, natural(depth, tables[at]), 4);
         z += 1;
     }

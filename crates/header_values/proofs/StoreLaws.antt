@@ -21,7 +21,7 @@ use Rattle.settings.specs.declared.Settings.{Settings}
 use Rattle.settings.specs.ListLaws.{sumBelow-holds}
 use Rattle.settings.specs.Limits.{mostBands, mostComponents, mostWeightBits, mostParameterBits}
 use Rattle.settings.specs.LegalLaws.{legal-predictor}
-use Rattle.settings.specs.Tables.{stride, accumulatorSlot, entry, componentCount}
+use Rattle.settings.specs.Tables.{tableStride, parameterSlot, entry, componentCount}
 use Rattle.settings.specs.TableLaws.{components-fit}
 use Rattle.header.specs.Parts.{imageBits, predictorEnd, fixedBits, coderBits}
 use Rattle.header.specs.Tables.{signedOf, numberAt, componentsBefore, used, slots, tablesOf}
@@ -175,27 +175,27 @@ module _ (F : List Bool) (S : Settings) (at : ℕ) (d : AccumulatorsDone F S at)
   tables-are : (h : Header) (l : List Bool) → readHeader F ≡ got h l → h .tables ≡ tablesOf S (d .before .before .table) (d .table)
   tables-are h l e = ap (λ (x : Header). x .tables) (same-value e (header-got F S at (d .table) (d .behind) (d .before) (d .accumulators)))
 
-  pub length-tables : (h : Header) (l : List Bool) → readHeader F ≡ got h l → length (h .tables) ≡ stride * S .image .nz
+  pub length-tables : (h : Header) (l : List Bool) → readHeader F ≡ got h l → length (h .tables) ≡ tableStride * S .image .nz
   length-tables h l e = ap length (tables-are h l e) ∙ length-tables-of S _ _
 
   cond-same : (b : Bool) (x y : ℤ) → (b ≡ true → x ≡ y) → cond b x (pos 0) ≡ cond b y (pos 0)
   cond-same true x y e = e refl
   cond-same false x y e = refl
 
-  slot-of : (z i : ℕ) → z < S .image .nz → i < stride → entry (tablesOf S (d .before .before .table) (d .table)) z i ≡ slotIn F S at (componentsBefore (S .predictor) z) z i
+  slot-of : (z i : ℕ) → z < S .image .nz → i < tableStride → entry (tablesOf S (d .before .before .table) (d .table)) z i ≡ slotIn F S at (componentsBefore (S .predictor) z) z i
   unfolding tablesOf
   slot-of z i h k =
       entry-slots S _ z i h k
       ∙ cond-same (used S z i) _ _
       (λ u.
       ⊎-elim
-      (λ c. rw (ne-eqb i accumulatorSlot (λ e. omega (arith, c .1, components-few z))) (ap (signedOf q) (weight-in z i (c .0) h (c .1) .is)))
+      (λ c. rw (ne-eqb i parameterSlot (λ e. omega (arith, c .1, components-few z))) (ap (signedOf q) (weight-in z i (c .0) h (c .1) .is)))
       (λ c. rw (c .1) (ap pos (entry-in z (c .0) h .is)))
       (used-cases S z i u))
 
-  pub slot-stored : (h : Header) (l : List Bool) → readHeader F ≡ got h l → (z i : ℕ) → z < S .image .nz → i < stride → getD (h .tables) (stride * z + i) (pos 0) ≡ slotIn F S at (componentsBefore (S .predictor) z) z i
+  pub slot-stored : (h : Header) (l : List Bool) → readHeader F ≡ got h l → (z i : ℕ) → z < S .image .nz → i < tableStride → getD (h .tables) (tableStride * z + i) (pos 0) ≡ slotIn F S at (componentsBefore (S .predictor) z) z i
   unfolding entry
-  slot-stored h l e z i m k = ap (λ (T : List ℤ). getD T (stride * z + i) (pos 0)) (tables-are h l e) ∙ slot-of z i m k
+  slot-stored h l e z i m k = ap (λ (T : List ℤ). getD T (tableStride * z + i) (pos 0)) (tables-are h l e) ∙ slot-of z i m k
 
 -- ---- one value laid behind the others
 
@@ -231,29 +231,29 @@ module _ (F : List Bool) (S : Settings) (at first z i : ℕ) where
   weights = S .predictor .custom && ltb i (componentCount (S .predictor) z)
 
   abbrev entries : Bool
-  entries = S .coder .tabled && eqb i accumulatorSlot
+  entries = S .coder .tabled && eqb i parameterSlot
 
   unused : used S z i ≡ false → pos 0 ≡ slotIn F S at first z i
   unused u = rw u
 
-  pub slot-single : AccumulatorsDone F S at → i ≡ accumulatorSlot → S .coder .tabled ≡ false → pos 0 ≡ slotIn F S at first z i
+  pub slot-single : AccumulatorsDone F S at → i ≡ parameterSlot → S .coder .tabled ≡ false → pos 0 ≡ slotIn F S at first z i
   unfolding used
-  slot-single d e t = unused (both-false weights entries (right-false (S .predictor .custom) _ (le-ltb i (componentCount (S .predictor) z) (omega (arith, components-few F S at d z)))) (left-false (S .coder .tabled) (eqb i accumulatorSlot) t))
+  slot-single d e t = unused (both-false weights entries (right-false (S .predictor .custom) _ (le-ltb i (componentCount (S .predictor) z) (omega (arith, components-few F S at d z)))) (left-false (S .coder .tabled) (eqb i parameterSlot) t))
 
-  pub slot-default : i ≢ accumulatorSlot → S .predictor .custom ≡ false → pos 0 ≡ slotIn F S at first z i
+  pub slot-default : i ≢ parameterSlot → S .predictor .custom ≡ false → pos 0 ≡ slotIn F S at first z i
   unfolding used
-  slot-default e c = unused (both-false weights entries (left-false (S .predictor .custom) (ltb i (componentCount (S .predictor) z)) c) (right-false (S .coder .tabled) _ (ne-eqb i accumulatorSlot e)))
+  slot-default e c = unused (both-false weights entries (left-false (S .predictor .custom) (ltb i (componentCount (S .predictor) z)) c) (right-false (S .coder .tabled) _ (ne-eqb i parameterSlot e)))
 
-  pub slot-beyond : i ≢ accumulatorSlot → componentCount (S .predictor) z ≤ i → pos 0 ≡ slotIn F S at first z i
+  pub slot-beyond : i ≢ parameterSlot → componentCount (S .predictor) z ≤ i → pos 0 ≡ slotIn F S at first z i
   unfolding used
-  slot-beyond e k = unused (both-false weights entries (right-false (S .predictor .custom) _ (le-ltb i _ k)) (right-false (S .coder .tabled) _ (ne-eqb i accumulatorSlot e)))
+  slot-beyond e k = unused (both-false weights entries (right-false (S .predictor .custom) _ (le-ltb i _ k)) (right-false (S .coder .tabled) _ (ne-eqb i parameterSlot e)))
 
-  pub slot-accumulator : i ≡ accumulatorSlot → S .coder .tabled ≡ true → (r : ℤ) → r ≡ pos (number (take 4 (drop (at + 4 * z) F))) → r ≡ slotIn F S at first z i
+  pub slot-accumulator : i ≡ parameterSlot → S .coder .tabled ≡ true → (r : ℤ) → r ≡ pos (number (take 4 (drop (at + 4 * z) F))) → r ≡ slotIn F S at first z i
   slot-accumulator e t r q = q ∙ rw (e, used-accumulator S z t)
 
-  pub slot-weight : i ≢ accumulatorSlot → S .predictor .custom ≡ true → i < componentCount (S .predictor) z → (r : ℤ)
+  pub slot-weight : i ≢ parameterSlot → S .predictor .custom ≡ true → i < componentCount (S .predictor) z → (r : ℤ)
       → r ≡ signedOf (S .predictor .precision) (number (take (S .predictor .precision) (drop (predictorEnd + S .predictor .precision * (first + i)) F))) → r ≡ slotIn F S at first z i
-  slot-weight e c k r q = q ∙ rw (used-weight S z i c k, ne-eqb i accumulatorSlot e)
+  slot-weight e c k r q = q ∙ rw (used-weight S z i c k, ne-eqb i parameterSlot e)
 
 -- ---- two's complement
 
@@ -287,37 +287,37 @@ lowering q v half r e f m h k =
 -- ---- band z up to slot i
 
 pub record Laying (F : List Bool) (z : ℕ) (begun : List ℤ) (i : ℕ) (area : List ℤ) : Type 0 where
-  pub most : i ≤ stride
+  pub most : i ≤ tableStride
   pub long : length area ≡ length begun
-  pub stored : (h : Header) (l : List Bool) (first : List ℤ) → readHeader F ≡ got h l → begun ≡ laid (h .tables) (stride * z) first → area ≡ laid (h .tables) (stride * z + i) first
+  pub stored : (h : Header) (l : List Bool) (first : List ℤ) → readHeader F ≡ got h l → begun ≡ laid (h .tables) (tableStride * z) first → area ≡ laid (h .tables) (tableStride * z + i) first
 
 pub laying-begin : (F : List Bool) (z : ℕ) (begun : List ℤ) → Laying F z begun 0 begun
 laying-begin F z begun =
-    let e : stride * z ≡ stride * z + 0 = omega arith in
+    let e : tableStride * z ≡ tableStride * z + 0 = omega arith in
     record { most = omega arith; long = refl; stored = λ h l first r b. b ∙ ap (λ (n : ℕ). laid (h .tables) n first) e }
 
-pub laying-more : (F : List Bool) (S : Settings) (at first z : ℕ) (begun : List ℤ) (i : ℕ) (area : List ℤ) → AccumulatorsDone F S at → first ≡ componentsBefore (S .predictor) z → z < S .image .nz → stride * S .image .nz ≤ length begun → Laying F z begun i area → i < stride
-    → (v : ℤ) → v ≡ slotIn F S at first z i → Laying F z begun (i + 1) (set area (stride * z + i) v)
+pub laying-more : (F : List Bool) (S : Settings) (at first z : ℕ) (begun : List ℤ) (i : ℕ) (area : List ℤ) → AccumulatorsDone F S at → first ≡ componentsBefore (S .predictor) z → z < S .image .nz → tableStride * S .image .nz ≤ length begun → Laying F z begun i area → i < tableStride
+    → (v : ℤ) → v ≡ slotIn F S at first z i → Laying F z begun (i + 1) (set area (tableStride * z + i) v)
 laying-more F S at first z begun i area d c h m y k v e =
     record {
       most = omega arith;
-      long = length-set area (stride * z + i) v ∙ y .long;
+      long = length-set area (tableStride * z + i) v ∙ y .long;
       stored = λ t l f r b.
           let T : List ℤ = t .tables in
-          let n : length T ≡ stride * S .image .nz = length-tables F S at d t l r in
-          let p : length begun ≡ stride * z + (length f - stride * z) = ap length b ∙ length-append (take (stride * z) T) (drop (stride * z) f) ∙ rw (length-take-le (stride * z) T (omega arith), length-drop (stride * z) f) in
-          let w : v ≡ getD T (stride * z + i) (pos 0) = e ∙ ap (λ (x : ℕ). slotIn F S at x z i) c ∙ sym (slot-stored F S at d t l r z i h k) in
-          let u : stride * z + i + 1 ≡ stride * z + (i + 1) = omega arith in
-          ap (λ (x : List ℤ). set x (stride * z + i) v) (y .stored t l f r b)
-          ∙ ap (set (laid T (stride * z + i) f) (stride * z + i)) w
-          ∙ laid-more T f (stride * z + i) (omega arith) (omega arith)
+          let n : length T ≡ tableStride * S .image .nz = length-tables F S at d t l r in
+          let p : length begun ≡ tableStride * z + (length f - tableStride * z) = ap length b ∙ length-append (take (tableStride * z) T) (drop (tableStride * z) f) ∙ rw (length-take-le (tableStride * z) T (omega arith), length-drop (tableStride * z) f) in
+          let w : v ≡ getD T (tableStride * z + i) (pos 0) = e ∙ ap (λ (x : ℕ). slotIn F S at x z i) c ∙ sym (slot-stored F S at d t l r z i h k) in
+          let u : tableStride * z + i + 1 ≡ tableStride * z + (i + 1) = omega arith in
+          ap (λ (x : List ℤ). set x (tableStride * z + i) v) (y .stored t l f r b)
+          ∙ ap (set (laid T (tableStride * z + i) f) (tableStride * z + i)) w
+          ∙ laid-more T f (tableStride * z + i) (omega arith) (omega arith)
           ∙ ap (λ (x : ℕ). laid T x f) u;
     }
 
-pub laying-all : (F : List Bool) (z : ℕ) (begun : List ℤ) (i : ℕ) (area : List ℤ) → Laying F z begun i area → stride ≤ i → BandStored F z begun area
+pub laying-all : (F : List Bool) (z : ℕ) (begun : List ℤ) (i : ℕ) (area : List ℤ) → Laying F z begun i area → tableStride ≤ i → BandStored F z begun area
 laying-all F z begun i area y k =
-    let e : i ≡ stride = omega (arith, y .most) in
-    record { long = y .long; stored = λ h l first r b. y .stored h l first r b ∙ ap (λ (n : ℕ). laid (h .tables) (stride * z + n) first) e }
+    let e : i ≡ tableStride = omega (arith, y .most) in
+    record { long = y .long; stored = λ h l first r b. y .stored h l first r b ∙ ap (λ (n : ℕ). laid (h .tables) (tableStride * z + n) first) e }
 
 -- ---- the bands before band z
 
@@ -325,14 +325,14 @@ pub record Bands (F : List Bool) (S : Settings) (begun : List ℤ) (first z : �
   pub most : z ≤ S .image .nz
   pub long : length area ≡ length begun
   pub components : first ≡ componentsBefore (S .predictor) z
-  pub stored : (h : Header) (l : List Bool) → readHeader F ≡ got h l → area ≡ laid (h .tables) (stride * z) begun
+  pub stored : (h : Header) (l : List Bool) → readHeader F ≡ got h l → area ≡ laid (h .tables) (tableStride * z) begun
 
 pub bands-begin : (F : List Bool) (S : Settings) (begun : List ℤ) → Bands F S begun 0 0 begun
 bands-begin F S begun = record { most = omega arith; long = refl; components = sym (no-components (S .predictor)); stored = λ h l r. refl }
 
 pub bands-more : (F : List Bool) (S : Settings) (begun : List ℤ) (first z n : ℕ) (area area′ : List ℤ) → Bands F S begun first z area → z < S .image .nz → n ≡ componentCount (S .predictor) z → BandStored F z area area′ → Bands F S begun (first + n) (z + 1) area′
 bands-more F S begun first z n area area′ b h c s =
-    let u : stride * z + stride ≡ stride * (z + 1) = omega arith in
+    let u : tableStride * z + tableStride ≡ tableStride * (z + 1) = omega arith in
     record {
       most = omega arith;
       long = s .long ∙ b .long;
@@ -345,7 +345,7 @@ bands-all F S at begun first z area d b k =
     let e : z ≡ S .image .nz = omega (arith, b .most) in
     record {
       stored = λ h l r.
-          b .stored h l r ∙ ap (λ (n : ℕ). laid (h .tables) (stride * n) begun) e ∙ laid-all (h .tables) begun (stride * S .image .nz) (length-tables F S at d h l r);
+          b .stored h l r ∙ ap (λ (n : ℕ). laid (h .tables) (tableStride * n) begun) e ∙ laid-all (h .tables) begun (tableStride * S .image .nz) (length-tables F S at d h l r);
     }
 
 -- ---- what is known before the tables are stored

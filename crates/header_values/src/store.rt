@@ -5,7 +5,7 @@ ghost use Prim.Native.Nat.{_+_, _*_, _≤_, _<_, _^_};
 ghost use lib.IntN.{pos};
 ghost use lib.ListN.{length, take, drop};
 ghost use Rattle.bitstream.specs.Stream.{unpack, number};
-ghost use Rattle.settings.specs.Tables.{stride, componentCount};
+ghost use Rattle.settings.specs.Tables.{tableStride, componentCount};
 ghost use Rattle.header.specs.Parts.{predictorEnd};
 ghost use Rattle.header.specs.Tables.{signedOf, componentsBefore};
 ghost use Rattle.header_values.specs.Storing.{Storing, Stored, AccumulatorsDone, BandStored, slotIn};
@@ -15,8 +15,8 @@ use header::sizes::PREDICTOR_END;
 use header::sizes::weights_size;
 use settings::Settings;
 use settings::range::power;
-use settings::tables::ACCUMULATOR_SLOT;
-use settings::tables::STRIDE;
+use settings::tables::PARAMETER_SLOT;
+use settings::tables::TABLE_STRIDE;
 use settings::tables::component_count;
 
 // The number that q bits are in two's complement.
@@ -52,10 +52,10 @@ fn weight_at(file: &[u8], s: Settings, at: usize, first: usize, z: usize, i: usi
 
 // What slot i of band z holds: zero where no table has it.
 fn slot_at(file: &[u8], s: Settings, at: usize, first: usize, z: usize, i: usize) -> i32
-    requires { ⌜ AccumulatorsDone (unpack (now file)) s at × (first ≡ componentsBefore (s .predictor) z) × (z < s .image .nz) × (i < stride) ⌝ }
+    requires { ⌜ AccumulatorsDone (unpack (now file)) s at × (first ≡ componentsBefore (s .predictor) z) × (z < s .image .nz) × (i < tableStride) ⌝ }
     ensures { λ r. ⌜ r ≡ slotIn (unpack (now (file .entry))) s at first z i ⌝ }
 {
-    if i == ACCUMULATOR_SLOT {
+    if i == PARAMETER_SLOT {
         if s.coder.tabled {
             return accumulator_at(file, s, at, z);
         }
@@ -72,12 +72,12 @@ fn slot_at(file: &[u8], s: Settings, at: usize, first: usize, z: usize, i: usize
 
 // Fills the slots of band z.
 fn store_band(file: &[u8], s: Settings, tables: &mut [i32], at: usize, first: usize, z: usize)
-    requires { ⌜ AccumulatorsDone (unpack (now file)) s at × (first ≡ componentsBefore (s .predictor) z) × (z < s .image .nz) × (stride * s .image .nz ≤ length (now tables)) ⌝ }
+    requires { ⌜ AccumulatorsDone (unpack (now file)) s at × (first ≡ componentsBefore (s .predictor) z) × (z < s .image .nz) × (tableStride * s .image .nz ≤ length (now tables)) ⌝ }
     ensures { λ r. ⌜ BandStored (unpack (now (file .entry))) z (now (tables .entry)) (now (tables .exit)) ⌝ }
 {
-    let base = STRIDE * z;
+    let base = TABLE_STRIDE * z;
     let mut i = 0;
-    while i < STRIDE {
+    while i < TABLE_STRIDE {
         tables[base + i] = slot_at(file, s, at, first, z, i);
         i += 1;
     }

@@ -15,7 +15,7 @@ use Rattle.integers.specs.Integer.{floorDiv}
 use Rattle.settings.specs.declared.Settings.{Settings}
 use Rattle.settings.specs.LegalLaws.{legal-settings}
 use Rattle.settings.specs.Lists.{join, one}
-use Rattle.settings.specs.Tables.{entry, backward, componentCount}
+use Rattle.settings.specs.Tables.{tableStride, entry, backward, componentCount}
 use Rattle.settings.specs.TableLaws.{legal-tables, components-fit}
 use Rattle.predictor.specs.Weights.{eighths, defaultWeights, customWeight, initialWeights}
 use Rattle.predictor.specs.WeightLaws.{weight-size, customWeight-range}
@@ -54,7 +54,7 @@ module _ {S : Settings} {tables ws : List ℤ} {z : ℕ} (b : Beginning S tables
   few : length ws ≤ 18
   few = rw (b .long) (components-fit (S .predictor) z (legal-settings S (b .legal) .predictor .bands-most))
 
-  pub custom-asks : S .predictor .custom ≡ true → Customs tables (length ws) (19 * z) Ω Q
+  pub custom-asks : S .predictor .custom ≡ true → Customs tables (length ws) (tableStride * z) Ω Q
   unfolding entry
   custom-asks e = record {
     long = omega (arith, few, b .band-in, b .tables-long);
@@ -64,13 +64,13 @@ module _ {S : Settings} {tables ws : List ℤ} {z : ℕ} (b : Beginning S tables
         let p = legal-settings S (b .legal) .predictor .precise e in
         let i-in : i < componentCount (S .predictor) z = omega (arith, b .long) in
         let w = legal-tables S tables (b .tables-legal) z (b .band-in) .weights e i i-in in
-        let c = customWeight-range Ω Q (getD tables (19 * z + i) (pos 0)) (omega (arith, p .0)) (p .1) w in
+        let c = customWeight-range Ω Q (getD tables (tableStride * z + i) (pos 0)) (omega (arith, p .0)) (p .1) w in
         let k : Ω + 2 ≤ 21 = omega (arith, resolution-most) in
-        le-trans (weight-size Ω (customWeight Ω Q (getD tables (19 * z + i) (pos 0))) c) (pow-mono k);
+        le-trans (weight-size Ω (customWeight Ω Q (getD tables (tableStride * z + i) (pos 0))) c) (pow-mono k);
   }
 
   abbrev customs : ℕ → List ℤ
-  customs n = join (λ i. one (customWeight Ω Q (getD tables (19 * z + i) (pos 0)))) 0 n
+  customs n = join (λ i. one (customWeight Ω Q (getD tables (tableStride * z + i) (pos 0)))) 0 n
 
   abbrev eights : List ℤ
   eights = eighths (backward (S .predictor) z) (pos (7 * 2 ^ Ω / 8))

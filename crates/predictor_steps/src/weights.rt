@@ -131,7 +131,7 @@ pub fn initial_weights(s: Settings, tables: &[i32], ws: &mut [i32], z: usize)
         custom_weights(
             tables,
             ws,
-            settings::tables::STRIDE * z,
+            settings::tables::TABLE_STRIDE * z,
             resolution,
             s.predictor.precision,
         );

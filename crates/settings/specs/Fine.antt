@@ -8,12 +8,12 @@ use lib.ListN.{length}
 use Rattle.settings.specs.declared.Settings.{Settings}
 use Rattle.settings.specs.Legal.{settingsLegal, limited, sampleCount}
 use Rattle.settings.specs.Range.{firstOut}
-use Rattle.settings.specs.Tables.{stride, scratchStride, tablesLegal}
+use Rattle.settings.specs.Tables.{tableStride, scratchStride, tablesLegal}
 
 -- scratch and the table area are long enough
 pub record Roomy (S : Settings) (scratch tables : ℕ) : Type 0 where
   pub scratch-holds : scratchStride * S .image .nz ≤ scratch
-  pub tables-hold : stride * S .image .nz ≤ tables
+  pub tables-hold : tableStride * S .image .nz ≤ tables
 
 -- legal settings within the house limits, all samples and each in range, memory enough, and legal values in the table slots used
 pub record Fine (S : Settings) (tables samples : List ℤ) (scratch : ℕ) : Type 0 where

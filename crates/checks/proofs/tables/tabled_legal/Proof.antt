@@ -7,7 +7,7 @@ use mir.Syntax.{w32}
 use mir.Val.{SFits}
 use mir.Facts.{toZ-ofZ}
 use borrow.Author.Needs.{sfits-of, needs}
-use Rattle.settings.specs.Tables.{stride, accumulatorSlot, entry, accumulatorLegal}
+use Rattle.settings.specs.Tables.{tableStride, parameterSlot, entry, accumulatorLegal}
 use Rattle.settings.specs.Truths.{asked}
 use Rattle.checks.proofs.tables.tabled_legal.Statement.{statement}
 use Rattle.checks.proofs.tables.tabled_legal.Tie as tie
@@ -34,10 +34,10 @@ returns-2 : tie.Need-returns-2
 unfolding entry
 returns-2 c =
     let s = c .before .before .before .before in
-    let f : SFits w32 (getD (s .args .tables .now) (stride * s .args .z + accumulatorSlot) (pos 0)) = sfits-of (c .before .accumulator-legal-arg .given) in
+    let f : SFits w32 (getD (s .args .tables .now) (tableStride * s .args .z + parameterSlot) (pos 0)) = sfits-of (c .before .accumulator-legal-arg .given) in
     c .accumulator-legal .ensures
     ∙ rw (toZ-ofZ f)
-    (sym (asked (s .args .c .tabled) (accumulatorLegal (s .args .i .depth) (entry (s .args .tables .now) (s .args .z) accumulatorSlot)) (c .before .before .if1 .left)))
+    (sym (asked (s .args .c .tabled) (accumulatorLegal (s .args .i .depth) (entry (s .args .tables .now) (s .args .z) parameterSlot)) (c .before .before .if1 .left)))
 
 pub tabled-legal-spec : {M : Type 1} → statement M
 tabled-legal-spec =

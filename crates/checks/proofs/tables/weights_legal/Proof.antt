@@ -10,7 +10,7 @@ use mir.Val.{SFits}
 use mir.Facts.{toZ-ofZ}
 use borrow.Author.Needs.{needs, sfits-of}
 use borrow.Author.Tests.{not-true, not-false}
-use Rattle.settings.specs.Tables.{stride, entry, every, weightLegal}
+use Rattle.settings.specs.Tables.{tableStride, entry, every, weightLegal}
 use Rattle.settings.specs.TableLaws.{every-of, every-more, every-not, every-same}
 use Rattle.checks.proofs.tables.weights_legal.Statement.{statement}
 use Rattle.checks.proofs.tables.weights_legal.Tie as tie
@@ -26,7 +26,7 @@ tested : (c : tie.After-weight-legal Inv-loop μ-loop) → let s = c .before .be
 unfolding entry
 tested c =
     let s = c .before .before .before .before in
-    let f : SFits w32 (getD (s .args .tables .now) (stride * s .args .z + c .before .before .before .loop .i) (pos 0)) = sfits-of (c .before .weight-legal-arg .given) in
+    let f : SFits w32 (getD (s .args .tables .now) (tableStride * s .args .z + c .before .before .before .loop .i) (pos 0)) = sfits-of (c .before .weight-legal-arg .given) in
     c .weight-legal .ensures ∙ rw (toZ-ofZ f)
 
 mul-base : tie.Need-mul-base Inv-loop μ-loop

@@ -15,7 +15,7 @@ use Rattle.header.proofs.Joins.{Joins, joins-begin, joins-more, joins-a
 use Rattle.header.proofs.WriteLaws.{facts, weight-at, weightBitsAt, narrow}
 use Rattle.header.specs.Tables.{twos}
 use Rattle.settings.specs.Lists.{join}
-use Rattle.settings.specs.Tables.{accumulatorSlot, entry, componentCount}
+use Rattle.settings.specs.Tables.{tableStride, parameterSlot, entry, componentCount}
 use Rattle.header.proofs.write.write_band.Statement.{statement}
 use Rattle.header.proofs.write.write_band.Tie as tie
 
@@ -33,7 +33,7 @@ few c =
     omega (arith, c .before .before .component-count .ensures, n .few)
 
 -- an element of the area fits
-held : (c : tie.After-twos-arg Inv-loop μ-loop) → SFits w32 (getD (c .before .before .before .before .before .before .args .tables .now) (19 * c .before .before .before .before .before .before .args .z + c .before .before .before .loop .i) (pos 0))
+held : (c : tie.After-twos-arg Inv-loop μ-loop) → SFits w32 (getD (c .before .before .before .before .before .before .args .tables .now) (tableStride * c .before .before .before .before .before .before .args .z + c .before .before .before .loop .i) (pos 0))
 held c = sfits-of (c .twos-arg .given)
 
 component-count-requires : tie.Need-component-count-requires Inv-loop μ-loop

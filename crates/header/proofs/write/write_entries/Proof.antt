@@ -15,18 +15,18 @@ use Rattle.header.proofs.Joins.{Joins, joins-begin, joins-more, joins-a
 use Rattle.header.proofs.WriteLaws.{facts, accumulator-at}
 use Rattle.header.specs.Tables.{accumulatorTable}
 use Rattle.settings.specs.Lists.{join}
-use Rattle.settings.specs.Tables.{accumulatorSlot, entry, componentCount}
+use Rattle.settings.specs.Tables.{tableStride, parameterSlot, entry, componentCount}
 use Rattle.header.proofs.write.write_entries.Statement.{statement}
 use Rattle.header.proofs.write.write_entries.Tie as tie
 
 abbrev Inv-loop : tie.InvT-loop
-Inv-loop out₀ tables bands depth tail₀ z₀ out tail z = Joins (λ y. bits 4 (natAbs (entry tables y accumulatorSlot))) 4 bands tail₀ out₀ z tail out
+Inv-loop out₀ tables bands depth tail₀ z₀ out tail z = Joins (λ y. bits 4 (natAbs (entry tables y parameterSlot))) 4 bands tail₀ out₀ z tail out
 
 abbrev μ-loop : tie.MeasureT-loop
 μ-loop out₀ tables bands depth tail₀ z₀ out tail z = bands - z
 
 -- an element of the area fits
-held : (c : tie.After-natural-arg Inv-loop μ-loop) → SFits w32 (getD (c .before .before .before .before .before .before .args .tables .now) (19 * c .before .before .before .loop .z + 18) (pos 0))
+held : (c : tie.After-natural-arg Inv-loop μ-loop) → SFits w32 (getD (c .before .before .before .before .before .before .args .tables .now) (tableStride * c .before .before .before .loop .z + parameterSlot) (pos 0))
 held c = sfits-of (c .natural-arg .given)
 
 cast-bands : tie.Need-cast-bands Inv-loop μ-loop
