@@ -8,6 +8,8 @@
  *     kill         the program is killed before call N
  *     kill-behind  the program is killed behind call N
  *     half         call N, if it writes, writes half, and the program is killed
+ *     fail-again-K call N fails, and call N + K too: in putting back, say
+ *     fail-kill-K  call N fails, and the program is killed before call N + K
  *   FAULT_COUNT=FILE   the count of calls is written there at the end
  */
 #define _GNU_SOURCE
@@ -22,7 +24,7 @@
 #include <sys/types.h>
 #include <unistd.h>
 
-static long calls, fault;
+static long calls, fault, second;
 static const char *mode = "count";
 
 __attribute__((constructor)) static void begin(void) {
@@ -31,6 +33,8 @@ __attribute__((constructor)) static void begin(void) {
     fault = atol(text);
     const char *colon = strchr(text, ':');
     if (colon) mode = colon + 1;
+    if (!strncmp(mode, "fail-again-", 11)) second = fault + atol(mode + 11);
+    if (!strncmp(mode, "fail-kill-", 10)) second = fault + atol(mode + 10);
 }
 
 __attribute__((destructor)) static void end(void) {
@@ -47,7 +51,9 @@ static void die(void) { kill(getpid(), SIGKILL); }
 static int fails(void) {
     calls++;
     if (calls == fault && !strcmp(mode, "kill")) die();
-    if ((calls == fault && !strcmp(mode, "fail")) || (calls >= fault && !strcmp(mode, "fail-on"))) {
+    if (calls == second && !strncmp(mode, "fail-kill-", 10)) die();
+    if ((calls == fault && !strncmp(mode, "fail", 4)) || (calls >= fault && !strcmp(mode, "fail-on")) ||
+        (second && calls == second)) {
         errno = EIO;
         return 1;
     }

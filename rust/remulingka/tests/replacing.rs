@@ -14,6 +14,18 @@ use common::*;
 
 const MODES: [&str; 5] = ["fail", "fail-on", "kill", "kill-behind", "half"];
 
+/// A second fault while the first is being put right.
+const TWICE: [&str; 8] = [
+    "fail-again-1",
+    "fail-again-2",
+    "fail-again-3",
+    "fail-again-4",
+    "fail-kill-1",
+    "fail-kill-2",
+    "fail-kill-3",
+    "fail-kill-4",
+];
+
 /// Compiles what stands between the program and the system.
 fn shim(folder: &Path) -> PathBuf {
     let library = folder.join("faults.so");
@@ -65,6 +77,7 @@ fn restore(from: &Path, to: &Path) {
 /// what each leaves. Gives the count of runs.
 fn every_fault(
     name: &str,
+    modes: &[&str],
     prepare: impl Fn(&Path),
     words: &[&str],
     look: impl Fn(&Path, &Ended),
@@ -80,7 +93,7 @@ fn every_fault(
     look(&work, &whole);
     let (mut runs, mut killed, mut failed) = (0, 0, 0);
     for call in 1..=whole.calls {
-        for mode in MODES {
+        for mode in modes {
             restore(&start, &work);
             let ended = run_with(&shim, &work, words, &format!("{call}:{mode}"));
             look(&work, &ended);
@@ -136,7 +149,8 @@ fn pair_and_cube(folder: &Path) {
 #[test]
 fn a_header_and_its_data_belong_together_after_every_fault() {
     let words = ["open", "new.cube", "o.hdr", "--force"];
-    let runs = every_fault("pair", pair_and_cube, &words, |folder, ended| {
+    let modes = [&MODES[..], &TWICE].concat();
+    let runs = every_fault("pair", &modes, pair_and_cube, &words, |folder, ended| {
         let pair = Envi::read(folder, "o");
         let (new, old) = (all(sample(false)), all(older));
         if let Some(pair) = &pair {
@@ -154,7 +168,7 @@ fn a_header_and_its_data_belong_together_after_every_fault() {
             assert!(data == USUAL.data(sample(false)) || data == by_pixel.data(older));
         }
     });
-    assert!(runs > 60, "{runs}");
+    assert!(runs > 200, "{runs}");
 }
 
 #[test]
@@ -185,7 +199,7 @@ fn one_failure_puts_the_old_pair_back() {
 #[test]
 fn new_names_get_both_files_or_none_that_says_anything() {
     let words = ["open", "new.cube", "fresh.hdr"];
-    every_fault("fresh", pair_and_cube, &words, |folder, ended| {
+    every_fault("fresh", &MODES, pair_and_cube, &words, |folder, ended| {
         let pair = Envi::read(folder, "fresh");
         assert!(!ended.succeeded || pair.is_some());
         if let Some(pair) = pair {
@@ -206,7 +220,7 @@ fn a_cube_is_old_or_new_and_its_stored_header_its_own() {
         succeeds(folder, &["pack", "o.hdr", "f.cube"]);
     };
     let words = ["pack", "new.hdr", "f.cube", "--force", "--user-data", "7"];
-    every_fault("cube", prepare, &words, |folder, ended| {
+    every_fault("cube", &MODES, prepare, &words, |folder, ended| {
         // At every moment the name has one of the two cubes.
         let cube = bytes(folder, "f.cube");
         assert!(!ended.succeeded || cube[0] == 7);
@@ -224,7 +238,7 @@ fn parts_are_each_in_order_after_every_fault() {
         succeeds(folder, &["pack", "o.hdr", "s.cube", "--split", "2"]);
     };
     let words = ["pack", "new.hdr", "s.cube", "--split", "2", "--force"];
-    every_fault("parts", prepare, &words, |folder, _| {
+    every_fault("parts", &MODES, prepare, &words, |folder, _| {
         for name in ["s.0001.cube", "s.0002.cube"] {
             let line = succeeds(folder, &["check", name]);
             let has_stored = folder.join(format!("{name}.envi")).exists();
