@@ -164,6 +164,9 @@ fn names_need_not_be_utf_8() {
         bytes(&folder, "image.img")
     );
     run(&[word("pack"), name(".hdr"), name("2.cube")]);
+    let list = [name(".cube").as_bytes(), b"\n"].concat();
+    fs::write(folder.join("list"), list).unwrap();
+    run(&[word("check"), word("--list"), word("list")]);
     let json = run(&[word("check"), word("--json"), name(".cube")]);
     assert!(String::from_utf8(json)
         .unwrap()

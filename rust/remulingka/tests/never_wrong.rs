@@ -398,6 +398,14 @@ fn a_cube_that_is_not_what_was_packed_is_noticed() {
     succeeds(&folder, &["pack", "other.hdr", "g.cube"]);
     fs::copy(folder.join("f.cube.envi"), folder.join("g.cube.envi")).unwrap();
     fails(&folder, REFUSED, &["open", "g.cube", "other_again.hdr"]);
+    fs::write(folder.join("g.cube.envi"), "ENVI\nsamples = 5\n").unwrap();
+    let message = fails(&folder, REFUSED, &["open", "g.cube", "other_again.hdr"]);
+    assert!(
+        message.contains("g.cube.envi: ") && message.contains("--no-stored"),
+        "{message}"
+    );
+    let output = remulingka(&folder, &["check", "g.cube"]);
+    assert!(String::from_utf8_lossy(&output.stdout).starts_with("REFUSED g.cube.envi"));
 }
 
 #[test]

@@ -1,6 +1,6 @@
 //! `remulingka check`: opening many files to see which are in order.
 
-use std::ffi::OsString;
+use std::ffi::{OsStr, OsString};
 use std::fs;
 use std::os::unix::ffi::OsStrExt;
 use std::path::{Path, PathBuf};
@@ -10,7 +10,7 @@ use remulingka::{Refusal, Settings};
 use super::arguments::Arguments;
 use super::console::{is_quiet, print, report, Progress};
 use super::failure::Failure;
-use super::files::{is_dash, read_cube, read_text};
+use super::files::{is_dash, read_cube, read_text_bytes};
 use super::image::{counted, refused_file};
 use super::jobs::in_order;
 use super::stored::{is_stored, Stored};
@@ -88,12 +88,11 @@ fn files_of(arguments: &Arguments) -> Result<Vec<PathBuf>, Failure> {
     let mut named: Vec<PathBuf> = arguments.operands().iter().map(PathBuf::from).collect();
     let list = arguments.path("list");
     if let Some(list) = list {
-        let text = read_text(list)?;
-        named.extend(
-            text.lines()
-                .filter(|line| !line.is_empty())
-                .map(PathBuf::from),
-        );
+        // Names need not be UTF-8.
+        let text = read_text_bytes(list, b"")?.unwrap_or_default();
+        let lines = text.split(|&byte| byte == b'\n');
+        let lines = lines.filter(|line| !line.is_empty());
+        named.extend(lines.map(|line| PathBuf::from(OsStr::from_bytes(line))));
     }
     if named.is_empty() && list.is_none() {
         return Err(arguments.wrong_operands());

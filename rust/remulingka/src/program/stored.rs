@@ -144,7 +144,12 @@ impl Stored {
         if is_dash(cube) || !path.exists() {
             return Ok(None);
         }
-        let mut header = Header::read(&path)?;
+        let mut header = Header::read(&path).map_err(|failure| match failure {
+            Failure::Refused(what) => {
+                Failure::Refused(format!("{what}; --no-stored does without it"))
+            }
+            failure => failure,
+        })?;
         let unread = |name: &str, text: &str| {
             Failure::refused(&path, format!("{name} = {text} cannot be read"))
         };
