@@ -1,5 +1,6 @@
 -- Section 5.3 of the standard: the header as bits, written and read, and that neither loses nor forges; a header worked by hand stands before the laws.
 pub mod Fields
+pub mod Places
 pub mod Parts
 pub mod Tables
 pub mod Write

@@ -10,7 +10,7 @@ use borrow.Author.Tests.{ltb-true, ltb-false, le-ltb, eq-eqb, ne-eqb}
 use lib.Dec.{leb, eqb, ltb, leb→le, le→leb}
 use lib.IntN.{ℤ, pos, negsuc, natAbs, _+ℤ_, _-ℤ_, +ℤ-negℤ-cancel}
 use lib.Signed.{_≤ℤ_}
-use lib.ListN.{length, getD}
+use lib.ListN.{length}
 use lib.Pow.{pow-lt}
 use Rattle.settings.specs.declared.Image.{Image}
 use Rattle.settings.specs.declared.Predictor.{Predictor}
@@ -18,7 +18,8 @@ use Rattle.settings.specs.declared.Coder.{Coder}
 use Rattle.settings.specs.Legal.{between, imageLegal, predictorLegal, coderLegal, limited, sampleCount}
 use Rattle.settings.specs.LegalLaws.{LegalImage, LegalPredictor, LegalCoder, Power}
 use Rattle.header.specs.Fields.{fields, split, flag}
-use Rattle.header.specs.Parts.{imageFields, imageWidths, imageOf, coderType, predictorFields, predictorWidths, predictorOf, coderFields, coderWidths, coderOf, exponentOf, unwrapped, isOne, usedImage, usedPredictor, usedCoder, imageBits, predictorBits, coderBits}
+use Rattle.header.specs.Places.{_‼_, encodingOrder, interleavingDepth, coderType, weightMethod, weightPrecision, accumulatorConstant, accumulatorTableFlag}
+use Rattle.header.specs.Parts.{imageFields, imageWidths, imageOf, predictorFields, predictorWidths, predictorOf, coderFields, coderWidths, coderOf, exponentOf, unwrapped, isOne, usedImage, usedPredictor, usedCoder, imageBits, predictorBits, coderBits}
 use Rattle.header.specs.FieldLaws.{widths, values, total, split-fields, length-fields}
 
 -- ---- lengths
@@ -122,7 +123,7 @@ image-values I c l = λ i. record {
   word = unwrapped-value 3 (I .word) (l .word-least) (l .word-most) i;
 }
 
-coder-type-value : (I : Image) (c : ℕ) → c < 2 → coderType (values (imageFields I c)) ≡ c
+coder-type-value : (I : Image) (c : ℕ) → c < 2 → values (imageFields I c) ‼ coderType ≡ c
 unfolding imageFields values
 coder-type-value I c h = small-value 1 c h
 
@@ -156,9 +157,9 @@ pub image-back : (I : Image) (c : ℕ) (r : List Bool) → LegalImage I → imag
 unfolding imageFields widths
 image-back I c r l = ap imageOf (split-fields (imageFields I c) r) ∙ image-values I c l
 
-pub coder-type-back : (I : Image) (c : ℕ) (r : List Bool) → c < 2 → coderType (split imageWidths (fields (imageFields I c) ++ r)) ≡ c
+pub coder-type-back : (I : Image) (c : ℕ) (r : List Bool) → c < 2 → split imageWidths (fields (imageFields I c) ++ r) ‼ coderType ≡ c
 unfolding imageFields widths
-coder-type-back I c r h = ap coderType (split-fields (imageFields I c) r) ∙ coder-type-value I c h
+coder-type-back I c r h = ap (λ (v : List ℕ). v ‼ coderType) (split-fields (imageFields I c) r) ∙ coder-type-value I c h
 
 pub predictor-back : (I : Image) (P : Predictor) (r : List Bool) → LegalPredictor I P → predictorOf (split predictorWidths (fields (predictorFields P) ++ r)) ≡ usedPredictor P
 unfolding predictorFields widths
@@ -219,12 +220,12 @@ coder-legal-used I C = rw (or-unused (C .tabled) (λ k. leb (k + 2) (I .depth)) 
 
 pub image-named : (v : List ℕ) → usedImage (imageOf v) ≡ imageOf v
 unfolding usedImage imageOf
-image-named v = rw (cond-else (isOne (getD v 7 0)) 0 0 (unwrapped (2 ^ 16) (getD v 8 0)))
+image-named v = rw (cond-else (isOne (v ‼ encodingOrder)) 0 0 (unwrapped (2 ^ 16) (v ‼ interleavingDepth)))
 
 pub predictor-named : (v : List ℕ) → usedPredictor (predictorOf v) ≡ predictorOf v
 unfolding usedPredictor predictorOf
-predictor-named v = rw (cond-then (isOne (getD v 12 0)) (getD v 14 0) 0 0)
+predictor-named v = rw (cond-then (isOne (v ‼ weightMethod)) (v ‼ weightPrecision) 0 0)
 
 pub coder-named : (v : List ℕ) → usedCoder (coderOf v) ≡ coderOf v
 unfolding usedCoder coderOf
-coder-named v = rw (cond-else (isOne (getD v 4 0)) 0 0 (getD v 3 0))
+coder-named v = rw (cond-else (isOne (v ‼ accumulatorTableFlag)) 0 0 (v ‼ accumulatorConstant))

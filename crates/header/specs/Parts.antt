@@ -3,22 +3,23 @@ use mathlib.Core.Bool.{Bool, cond}
 use mathlib.Core.List.{List, [], _∷_}
 use Prim.Native.Nat.{ℕ, zero, suc, _+_, _-_, _^_}
 use lib.IntN.{ℤ, pos, natAbs, _+ℤ_, _-ℤ_}
-use lib.ListN.{getD}
 use lib.Dec.{eqb}
 use Rattle.settings.specs.declared.Image.{Image}
 use Rattle.settings.specs.declared.Predictor.{Predictor}
 use Rattle.settings.specs.declared.Coder.{Coder}
 use Rattle.header.specs.Fields.{Field, _∶_, flag}
+use Rattle.header.specs.Places.{_‼_, userData, xSize, ySize, zSize, sampleType, dynamicRange, encodingOrder, interleavingDepth, wordSize, predictionBands, predictionMode, localSumType, registerSize, weightResolution, exponentInterval, initialExponent, finalExponent, weightMethod, weightPrecision, unaryLimit, rescalingSize, initialCount, accumulatorConstant, accumulatorTableFlag}
 
--- 12 bytes: user data, Nx, Ny, Nz, sample type, reserved, D, order, M, reserved, B, coder type, reserved
+-- 12 bytes: user data, Nx, Ny, Nz, sample type, two reserved, D, order, M, reserved, B, coder type, five reserved
 unfoldable pub imageFields : Image → ℕ → List Field
 imageFields I coder =
-    8 ∶ I .user ∷ 16 ∶ I .nx ∷ 16 ∶ I .ny ∷ 16 ∶ I .nz ∷ 1 ∶ flag (I .signed) ∷ 2 ∶ 0 ∷ 4 ∶ I .depth
-    ∷ 1 ∶ flag (I .sequential) ∷ 16 ∶ cond (I .sequential) 0 (I .interleave) ∷ 2 ∶ 0 ∷ 3 ∶ I .word ∷ 1 ∶ coder ∷ 10 ∶ 0 ∷ []
+    8 ∶ I .user ∷ 16 ∶ I .nx ∷ 16 ∶ I .ny ∷ 16 ∶ I .nz ∷ 1 ∶ flag (I .signed) ∷ 1 ∶ 0 ∷ 1 ∶ 0 ∷ 4 ∶ I .depth
+    ∷ 1 ∶ flag (I .sequential) ∷ 16 ∶ cond (I .sequential) 0 (I .interleave) ∷ 2 ∶ 0 ∷ 3 ∶ I .word ∷ 1 ∶ coder
+    ∷ 1 ∶ 0 ∷ 1 ∶ 0 ∷ 2 ∶ 0 ∷ 2 ∶ 0 ∷ 4 ∶ 0 ∷ []
 
 -- the widths of table 5-1
 abbrev pub imageWidths : List ℕ
-imageWidths = 8 ∷ 16 ∷ 16 ∷ 16 ∷ 1 ∷ 2 ∷ 4 ∷ 1 ∷ 16 ∷ 2 ∷ 3 ∷ 1 ∷ 10 ∷ []
+imageWidths = 8 ∷ 16 ∷ 16 ∷ 16 ∷ 1 ∷ 1 ∷ 1 ∷ 4 ∷ 1 ∷ 16 ∷ 2 ∷ 3 ∷ 1 ∷ 1 ∷ 1 ∷ 2 ∷ 2 ∷ 4 ∷ []
 
 -- their bits
 abbrev pub imageBits : ℕ
@@ -29,17 +30,17 @@ unfoldable pub exponentOf : ℕ → ℕ → ℕ
 exponentOf zero x = 0
 exponentOf (suc n) x = cond (eqb x (2 ^ suc n)) (suc n) (exponentOf n x)
 
--- 5 bytes: reserved, P, mode, reserved, sums, reserved, R, Ω − 4, log2 tinc − 4, vmin + 6, vmax + 6, reserved, custom, table flag, Q
+-- 5 bytes: two reserved, P, mode, reserved, sums, reserved, R, Ω − 4, log2 tinc − 4, vmin + 6, vmax + 6, reserved, custom, table flag, Q
 unfoldable pub predictorFields : Predictor → List Field
 predictorFields P =
-    2 ∶ 0 ∷ 4 ∶ P .bands ∷ 1 ∶ flag (P .reduced) ∷ 1 ∶ 0 ∷ 1 ∶ flag (P .column) ∷ 1 ∶ 0 ∷ 6 ∶ P .register
+    1 ∶ 0 ∷ 1 ∶ 0 ∷ 4 ∶ P .bands ∷ 1 ∶ flag (P .reduced) ∷ 1 ∶ 0 ∷ 1 ∶ flag (P .column) ∷ 1 ∶ 0 ∷ 6 ∶ P .register
     ∷ 4 ∶ (P .resolution - 4) ∷ 4 ∶ (exponentOf 11 (P .interval) - 4) ∷ 4 ∶ natAbs (P .vmin +ℤ pos 6)
     ∷ 4 ∶ natAbs (P .vmax +ℤ pos 6) ∷ 1 ∶ 0 ∷ 1 ∶ flag (P .custom) ∷ 1 ∶ flag (P .custom)
     ∷ 5 ∶ cond (P .custom) (P .precision) 0 ∷ []
 
 -- the widths of table 5-2
 abbrev pub predictorWidths : List ℕ
-predictorWidths = 2 ∷ 4 ∷ 1 ∷ 1 ∷ 1 ∷ 1 ∷ 6 ∷ 4 ∷ 4 ∷ 4 ∷ 4 ∷ 1 ∷ 1 ∷ 1 ∷ 5 ∷ []
+predictorWidths = 1 ∷ 1 ∷ 4 ∷ 1 ∷ 1 ∷ 1 ∷ 1 ∷ 6 ∷ 4 ∷ 4 ∷ 4 ∷ 4 ∷ 1 ∷ 1 ∷ 1 ∷ 5 ∷ []
 
 -- their bits, and the place behind them, where the weight table stands
 abbrev pub predictorBits : ℕ
@@ -74,47 +75,43 @@ unwrapped m v = cond (eqb v 0) m v
 abbrev pub isOne : ℕ → Bool
 isOne v = eqb v 1
 
--- the image settings that the 13 numbers of table 5-1 name
+-- the image settings that the 18 numbers of table 5-1 name
 unfoldable pub imageOf : List ℕ → Image
 imageOf v = record {
-  user = getD v 0 0;
-  nx = unwrapped (2 ^ 16) (getD v 1 0);
-  ny = unwrapped (2 ^ 16) (getD v 2 0);
-  nz = unwrapped (2 ^ 16) (getD v 3 0);
-  signed = isOne (getD v 4 0);
-  depth = unwrapped (2 ^ 4) (getD v 6 0);
-  sequential = isOne (getD v 7 0);
-  interleave = cond (isOne (getD v 7 0)) 0 (unwrapped (2 ^ 16) (getD v 8 0));
-  word = unwrapped (2 ^ 3) (getD v 10 0);
+  user = v ‼ userData;
+  nx = unwrapped (2 ^ 16) (v ‼ xSize);
+  ny = unwrapped (2 ^ 16) (v ‼ ySize);
+  nz = unwrapped (2 ^ 16) (v ‼ zSize);
+  signed = isOne (v ‼ sampleType);
+  depth = unwrapped (2 ^ 4) (v ‼ dynamicRange);
+  sequential = isOne (v ‼ encodingOrder);
+  interleave = cond (isOne (v ‼ encodingOrder)) 0 (unwrapped (2 ^ 16) (v ‼ interleavingDepth));
+  word = unwrapped (2 ^ 3) (v ‼ wordSize);
 }
 
--- the coder type among them
-abbrev pub coderType : List ℕ → ℕ
-coderType v = getD v 11 0
-
--- the predictor settings that the 15 numbers of table 5-2 name
+-- the predictor settings that the 16 numbers of table 5-2 name
 unfoldable pub predictorOf : List ℕ → Predictor
 predictorOf v = record {
-  bands = getD v 1 0;
-  reduced = isOne (getD v 2 0);
-  column = isOne (getD v 4 0);
-  register = unwrapped (2 ^ 6) (getD v 6 0);
-  resolution = getD v 7 0 + 4;
-  interval = 2 ^ (getD v 8 0 + 4);
-  vmin = pos (getD v 9 0) -ℤ pos 6;
-  vmax = pos (getD v 10 0) -ℤ pos 6;
-  custom = isOne (getD v 12 0);
-  precision = cond (isOne (getD v 12 0)) (getD v 14 0) 0;
+  bands = v ‼ predictionBands;
+  reduced = isOne (v ‼ predictionMode);
+  column = isOne (v ‼ localSumType);
+  register = unwrapped (2 ^ 6) (v ‼ registerSize);
+  resolution = v ‼ weightResolution + 4;
+  interval = 2 ^ (v ‼ exponentInterval + 4);
+  vmin = pos (v ‼ initialExponent) -ℤ pos 6;
+  vmax = pos (v ‼ finalExponent) -ℤ pos 6;
+  custom = isOne (v ‼ weightMethod);
+  precision = cond (isOne (v ‼ weightMethod)) (v ‼ weightPrecision) 0;
 }
 
 -- the coder settings that the 5 numbers of table 5-3 name
 unfoldable pub coderOf : List ℕ → Coder
 coderOf v = record {
-  unary = unwrapped (2 ^ 5) (getD v 0 0);
-  rescaling = getD v 1 0 + 4;
-  initial = unwrapped (2 ^ 3) (getD v 2 0);
-  tabled = isOne (getD v 4 0);
-  constant = cond (isOne (getD v 4 0)) 0 (getD v 3 0);
+  unary = unwrapped (2 ^ 5) (v ‼ unaryLimit);
+  rescaling = v ‼ rescalingSize + 4;
+  initial = unwrapped (2 ^ 3) (v ‼ initialCount);
+  tabled = isOne (v ‼ accumulatorTableFlag);
+  constant = cond (isOne (v ‼ accumulatorTableFlag)) 0 (v ‼ accumulatorConstant);
 }
 
 -- ---- settings that are none: M when band-sequential, Q with default weights, K beside its table

@@ -2,8 +2,8 @@
 use mathlib.Core.Bool.{Bool, true, not, _&&_, _||_}
 use mathlib.Core.List.{List, [], _∷_}
 use Prim.Native.Nat.{ℕ}
-use lib.ListN.{getD}
 use lib.Dec.{leb, eqb}
+use Rattle.header.specs.Places.{_‼_, reservedBehindType, largeRangeFlag, encodingOrder, interleavingDepth, reservedBeforeWord, hybridCoder, reservedBehindCoder, fidelityControl, reservedBehindFidelity, supplementaryTables, reservedInFront, representativeFlag, exponentOffsetFlag, narrowSums, exponentOffsetTableFlag, weightMethod, weightTableFlag, weightPrecision, accumulatorConstant, accumulatorTableFlag}
 use Rattle.header.specs.Parts.{isOne}
 
 -- every width is from 1 to 16
@@ -13,14 +13,17 @@ fitting (w ∷ ws) = leb 1 w && leb w 16 && fitting ws
 
 -- table 5-1: reserved bits, M when band-sequential
 abbrev pub imagePlain : List ℕ → Bool
-imagePlain v = eqb (getD v 5 0) 0 && (not (isOne (getD v 7 0)) || eqb (getD v 8 0) 0) && eqb (getD v 9 0) 0 && eqb (getD v 12 0) 0
+imagePlain v =
+    eqb (v ‼ reservedBehindType) 0 && eqb (v ‼ largeRangeFlag) 0 && (not (isOne (v ‼ encodingOrder)) || eqb (v ‼ interleavingDepth) 0)
+    && eqb (v ‼ reservedBeforeWord) 0 && eqb (v ‼ hybridCoder) 0 && eqb (v ‼ reservedBehindCoder) 0 && eqb (v ‼ fidelityControl) 0
+    && eqb (v ‼ reservedBehindFidelity) 0 && eqb (v ‼ supplementaryTables) 0
 
 -- table 5-2: reserved bits, the two flags of the weight table, Q with default weights
 abbrev pub predictorPlain : List ℕ → Bool
 predictorPlain v =
-    eqb (getD v 0 0) 0 && eqb (getD v 3 0) 0 && eqb (getD v 5 0) 0 && eqb (getD v 11 0) 0
-    && eqb (getD v 13 0) (getD v 12 0) && (isOne (getD v 12 0) || eqb (getD v 14 0) 0)
+    eqb (v ‼ reservedInFront) 0 && eqb (v ‼ representativeFlag) 0 && eqb (v ‼ exponentOffsetFlag) 0 && eqb (v ‼ narrowSums) 0
+    && eqb (v ‼ exponentOffsetTableFlag) 0 && eqb (v ‼ weightTableFlag) (v ‼ weightMethod) && (isOne (v ‼ weightMethod) || eqb (v ‼ weightPrecision) 0)
 
 -- table 5-3: K beside its table
 abbrev pub coderPlain : List ℕ → Bool
-coderPlain v = not (isOne (getD v 4 0)) || eqb (getD v 3 0) 15
+coderPlain v = not (isOne (v ‼ accumulatorTableFlag)) || eqb (v ‼ accumulatorConstant) 15

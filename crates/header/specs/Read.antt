@@ -18,7 +18,8 @@ use Rattle.settings.specs.declared.Settings.{Settings}
 use Rattle.settings.specs.Legal.{imageLegal, predictorLegal, coderLegal, limited}
 use Rattle.settings.specs.Tables.{every}
 use Rattle.header.specs.Fields.{fields, split, same}
-use Rattle.header.specs.Parts.{imageFields, imageWidths, imageOf, coderType, predictorFields, predictorWidths, predictorOf, coderFields, coderWidths, coderOf, imageBits, predictorBits, coderBits}
+use Rattle.header.specs.Places.{_‼_, coderType}
+use Rattle.header.specs.Parts.{imageFields, imageWidths, imageOf, predictorFields, predictorWidths, predictorOf, coderFields, coderWidths, coderOf, imageBits, predictorBits, coderBits}
 use Rattle.header.specs.Tables.{componentsBefore, numberAt, tablesOf}
 
 -- n bits are there, or the header ends inside
@@ -30,8 +31,8 @@ unfoldable pub readImage : List Bool → Read Image
 readImage l =
     present imageBits l
     (unless (firstHit
-    (not (imageLegal (imageOf v) && same (take imageBits l) (fields (imageFields (imageOf v) (coderType v)))) ⇒ IllegalField
-    ∷ eqb (coderType v) 1 ⇒ BlockCoder
+    (not (imageLegal (imageOf v) && same (take imageBits l) (fields (imageFields (imageOf v) (v ‼ coderType)))) ⇒ IllegalField
+    ∷ eqb (v ‼ coderType) 1 ⇒ BlockCoder
     ∷ not (limited (imageOf v)) ⇒ HouseLimit
     ∷ []))
     (got (imageOf v) (drop imageBits l)))

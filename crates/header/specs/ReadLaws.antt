@@ -27,7 +27,8 @@ use Rattle.settings.specs.LegalLaws.{legal-image, legal-predictor, legal-coder}
 use Rattle.settings.specs.Tables.{parameterSlot, entry, backward, componentCount, every}
 use Rattle.settings.specs.TableLaws.{every-at, every-of}
 use Rattle.header.specs.Fields.{fields, split, same}
-use Rattle.header.specs.Parts.{imageFields, imageWidths, imageOf, coderType, predictorFields, predictorWidths, predictorOf, coderFields, coderWidths, coderOf, usedImage, usedPredictor, usedCoder, imageBits, predictorBits, coderBits}
+use Rattle.header.specs.Places.{_‼_, coderType}
+use Rattle.header.specs.Parts.{imageFields, imageWidths, imageOf, predictorFields, predictorWidths, predictorOf, coderFields, coderWidths, coderOf, usedImage, usedPredictor, usedCoder, imageBits, predictorBits, coderBits}
 use Rattle.header.specs.Tables.{weightTable, accumulatorTable, componentsBefore, numberAt}
 use Rattle.header.specs.Write.{weightPart, accumulatorPart}
 use Rattle.header.specs.Read.{present, readImage, readPredictor, readCoder, readTable, readWeights, readAccumulators}
@@ -81,17 +82,17 @@ image-read I r e h =
     let f : List Bool = fields (imageFields I 0) in
     let v : List ℕ = split imageWidths (f ++ r) in
     let i : imageOf v ≡ usedImage I = image-back I 0 r (legal-image I e) in
-    let c : coderType v ≡ 0 = coder-type-back I 0 r (omega arith) in
+    let c : v ‼ coderType ≡ 0 = coder-type-back I 0 r (omega arith) in
     let m : imageLegal (imageOf v) ≡ true = ap imageLegal i ∙ image-legal-used I ∙ e in
     let o : limited (imageOf v) ≡ true = ap limited i ∙ limited-used I ∙ h in
-    part-read imageBits (imageLegal (imageOf v)) f (fields (imageFields (imageOf v) (coderType v))) (eqb (coderType v) 1 ⇒ BlockCoder ∷ not (limited (imageOf v)) ⇒ HouseLimit ∷ []) (imageOf v) r
+    part-read imageBits (imageLegal (imageOf v)) f (fields (imageFields (imageOf v) (v ‼ coderType))) (eqb (v ‼ coderType) 1 ⇒ BlockCoder ∷ not (limited (imageOf v)) ⇒ HouseLimit ∷ []) (imageOf v) r
     (length-image I 0) m (rw (i, c, image-written)) (rw (c, o))
     ∙ ap (λ (x : Image). got x r) i
 
-coder-type-zero : (l : List Bool) → eqb (coderType (split imageWidths l)) 1 ≡ false → coderType (split imageWidths l) ≡ 0
+coder-type-zero : (l : List Bool) → eqb (split imageWidths l ‼ coderType) 1 ≡ false → split imageWidths l ‼ coderType ≡ 0
 coder-type-zero l e =
-    let k = eqb-false (coderType (split imageWidths l)) 1 e in
-    omega (arith, split-lt imageWidths l 11)
+    let k = eqb-false (split imageWidths l ‼ coderType) 1 e in
+    omega (arith, split-lt imageWidths l coderType)
 
 pub record ImageIs (I : Image) (l r : List Bool) : Type 0 where
   pub legal : imageLegal I ≡ true
@@ -104,8 +105,8 @@ unfolding readImage
 read-image l r I e =
     let v : List ℕ = split imageWidths l in
     let limits : List Test = not (limited (imageOf v)) ⇒ HouseLimit ∷ [] in
-    let p = read-part imageBits (imageLegal (imageOf v)) (fields (imageFields (imageOf v) (coderType v))) (eqb (coderType v) 1 ⇒ BlockCoder ∷ limits) (imageOf v) l I r e in
-    let c = passed (got (imageOf v) (drop imageBits l)) (eqb (coderType v) 1) BlockCoder limits I r (p .others) in
+    let p = read-part imageBits (imageLegal (imageOf v)) (fields (imageFields (imageOf v) (v ‼ coderType))) (eqb (v ‼ coderType) 1 ⇒ BlockCoder ∷ limits) (imageOf v) l I r e in
+    let c = passed (got (imageOf v) (drop imageBits l)) (eqb (v ‼ coderType) 1) BlockCoder limits I r (p .others) in
     let d = passed (got (imageOf v) (drop imageBits l)) (not (limited (imageOf v))) HouseLimit [] I r (c .1) in
     rw (← p .value) (record {
       legal = p .test;

@@ -18,6 +18,9 @@ ghost use Rattle.header.specs.Write.{weightPart, accumulatorPart, header
 ghost use Rattle.header.specs.Writing.{Writable};
 use super::fields::chosen;
 use super::fields::put_fields;
+use super::places::CODER_WIDTHS;
+use super::places::IMAGE_WIDTHS;
+use super::places::PREDICTOR_WIDTHS;
 use super::sizes::padded;
 use super::sizes::weight_bits;
 use bitstream::write::Tail;
@@ -42,7 +45,7 @@ fn write_image(t: Tail, out: &mut [u8], i: Image) -> Tail
     put_fields(
         t,
         out,
-        &[8, 16, 16, 16, 1, 2, 4, 1, 16, 2, 3, 1, 10],
+        &IMAGE_WIDTHS,
         &[
             i.user as u32,
             i.nx,
@@ -50,11 +53,16 @@ fn write_image(t: Tail, out: &mut [u8], i: Image) -> Tail
             i.nz,
             signed,
             0,
+            0,
             i.depth,
             sequential,
             interleave,
             0,
             i.word,
+            0,
+            0,
+            0,
+            0,
             0,
             0,
         ],
@@ -99,8 +107,9 @@ fn write_predictor(t: Tail, out: &mut [u8], i: Image, p: Predictor) -> Tail
     put_fields(
         t,
         out,
-        &[2, 4, 1, 1, 1, 1, 6, 4, 4, 4, 4, 1, 1, 1, 5],
+        &PREDICTOR_WIDTHS,
         &[
+            0,
             0,
             p.bands,
             reduced,
@@ -130,7 +139,7 @@ fn write_coder(t: Tail, out: &mut [u8], i: Image, c: Coder) -> Tail
     put_fields(
         t,
         out,
-        &[5, 3, 3, 4, 1],
+        &CODER_WIDTHS,
         &[c.unary, c.rescaling - 4, c.initial, constant, tabled],
     )
 }

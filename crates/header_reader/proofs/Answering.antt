@@ -7,7 +7,7 @@ use native.Mathlib.Decide.{decLe}
 use native.Mathlib.Omega.{arith}
 use borrow.Author.Tests.{ltb-false, lt-ltb, le-ltb, eq-eqb, ne-eqb}
 use lib.Dec.{ltb, eqb}
-use lib.ListN.{length, drop, getD, length-drop}
+use lib.ListN.{length, drop, length-drop}
 use Rattle.bitstream.specs.Stream.{unpack}
 use Rattle.bitstream.specs.Laws.{length-unpack, absurd-path}
 use Rattle.refusals.specs.declared.Refusal.{Refusal}
@@ -22,6 +22,7 @@ use Rattle.settings.specs.declared.Predictor.{Predictor}
 use Rattle.settings.specs.declared.Coder.{Coder}
 use Rattle.settings.specs.Legal.{imageLegal, predictorLegal, coderLegal, limited}
 use Rattle.header.specs.Fields.{split}
+use Rattle.header.specs.Places.{_‼_, coderType}
 use Rattle.header.specs.Parts.{imageWidths, imageOf, predictorWidths, predictorOf, coderWidths, coderOf, imageBits, predictorBits, coderBits}
 use Rattle.header.specs.Plain.{imagePlain, predictorPlain, coderPlain}
 use Rattle.header.specs.Read.{present, readImage, readPredictor, readCoder}
@@ -91,7 +92,7 @@ module _ {x : Read Image} {pass : Bool} {kind : ℕ} {I : Image} {l : List Bool}
 -- ---- the three parts as such
 
 pub image-part : (l : List Bool) (v : List ℕ) (I : Image) (legal plain : Bool) → ltb (length l) imageBits ≡ false → v ≡ split imageWidths l → I ≡ imageOf v → legal ≡ imageLegal I → plain ≡ imagePlain v
-    → PartSeen (readImage l) imageBits (legal && plain) (eqb (getD v 11 0) 1 ⇒ BlockCoder ∷ not (limited I) ⇒ HouseLimit ∷ []) I l
+    → PartSeen (readImage l) imageBits (legal && plain) (eqb (v ‼ coderType) 1 ⇒ BlockCoder ∷ not (limited I) ⇒ HouseLimit ∷ []) I l
 unfolding readImage
 image-part l v I legal plain h e q b d = record { there = h; is = rw (b, d, q, e, image-plain l (ltb-false (length l) imageBits h)) }
 

@@ -17,7 +17,8 @@ use Rattle.settings.specs.LegalLaws.{legal-predictor, Power}
 use Rattle.settings.specs.Truths.{parts, whole, or-else}
 use Rattle.header.specs.Fields.{fields, split, same, flag}
 use Rattle.header.specs.FieldLaws.{widths, values, total, split-lt, split-same, same-split}
-use Rattle.header.specs.Parts.{imageFields, imageWidths, imageOf, coderType, predictorFields, predictorWidths, predictorOf, coderFields, coderWidths, coderOf, exponentOf, unwrapped, isOne, imageBits, predictorBits, coderBits}
+use Rattle.header.specs.Places.{_‼_, userData, xSize, ySize, zSize, sampleType, reservedBehindType, largeRangeFlag, dynamicRange, encodingOrder, interleavingDepth, reservedBeforeWord, wordSize, coderType, hybridCoder, reservedBehindCoder, fidelityControl, reservedBehindFidelity, supplementaryTables, reservedInFront, representativeFlag, predictionBands, predictionMode, exponentOffsetFlag, localSumType, narrowSums, registerSize, weightResolution, exponentInterval, initialExponent, finalExponent, exponentOffsetTableFlag, weightMethod, weightTableFlag, weightPrecision, unaryLimit, rescalingSize, initialCount, accumulatorConstant, accumulatorTableFlag}
+use Rattle.header.specs.Parts.{imageFields, imageWidths, imageOf, predictorFields, predictorWidths, predictorOf, coderFields, coderWidths, coderOf, exponentOf, unwrapped, isOne, imageBits, predictorBits, coderBits}
 use Rattle.header.specs.PartLaws.{exponent-power}
 use Rattle.header.specs.Plain.{imagePlain, predictorPlain, coderPlain}
 
@@ -77,28 +78,33 @@ ones-back false v h e = small 4 v h
 
 -- ---- the image
 
-image-forth : (l : List Bool) → same (take imageBits l) (fields (imageFields (imageOf (split imageWidths l)) (coderType (split imageWidths l)))) ≡ true → imagePlain (split imageWidths l) ≡ true
+abbrev imageTests : List ℕ → List Bool
+imageTests v = eqb (v ‼ largeRangeFlag) 0 ∷ (not (isOne (v ‼ encodingOrder)) || eqb (v ‼ interleavingDepth) 0) ∷ eqb (v ‼ reservedBeforeWord) 0 ∷ eqb (v ‼ hybridCoder) 0 ∷ eqb (v ‼ reservedBehindCoder) 0 ∷ eqb (v ‼ fidelityControl) 0 ∷ eqb (v ‼ reservedBehindFidelity) 0 ∷ eqb (v ‼ supplementaryTables) 0 ∷ []
+
+image-forth : (l : List Bool) → same (take imageBits l) (fields (imageFields (imageOf (split imageWidths l)) (split imageWidths l ‼ coderType))) ≡ true → imagePlain (split imageWidths l) ≡ true
 unfolding imageFields imageOf widths values total
 image-forth l e =
     let v : List ℕ = split imageWidths l in
-    let q : v ≡ values (imageFields (imageOf v) (coderType v)) = same-split (imageFields (imageOf v) (coderType v)) l e in
-    let at : (i : ℕ) → getD v i 0 ≡ getD (values (imageFields (imageOf v) (coderType v))) i 0 = λ i. ap (λ (x : List ℕ). getD x i 0) q in
-    whole (eqb (getD v 5 0) 0) ((not (isOne (getD v 7 0)) || eqb (getD v 8 0) 0) ∷ eqb (getD v 9 0) 0 ∷ eqb (getD v 12 0) 0 ∷ [])
-    (eq-eqb _ 0 (at 5), (unless-forth (isOne (getD v 7 0)) (getD v 8 0) (imageOf v .interleave) (at 8), (eq-eqb _ 0 (at 9), (eq-eqb _ 0 (at 12), tt))))
+    let q : v ≡ values (imageFields (imageOf v) (v ‼ coderType)) = same-split (imageFields (imageOf v) (v ‼ coderType)) l e in
+    let at : (i : ℕ) → v ‼ i ≡ values (imageFields (imageOf v) (v ‼ coderType)) ‼ i = λ i. ap (λ (x : List ℕ). x ‼ i) q in
+    whole (eqb (v ‼ reservedBehindType) 0) (imageTests v)
+    (eq-eqb _ 0 (at reservedBehindType), (eq-eqb _ 0 (at largeRangeFlag), (unless-forth (isOne (v ‼ encodingOrder)) (v ‼ interleavingDepth) (imageOf v .interleave) (at interleavingDepth), (eq-eqb _ 0 (at reservedBeforeWord), (eq-eqb _ 0 (at hybridCoder), (eq-eqb _ 0 (at reservedBehindCoder), (eq-eqb _ 0 (at fidelityControl), (eq-eqb _ 0 (at reservedBehindFidelity), (eq-eqb _ 0 (at supplementaryTables), tt)))))))))
 
-image-back : (l : List Bool) → imageBits ≤ length l → imagePlain (split imageWidths l) ≡ true → same (take imageBits l) (fields (imageFields (imageOf (split imageWidths l)) (coderType (split imageWidths l)))) ≡ true
+image-back : (l : List Bool) → imageBits ≤ length l → imagePlain (split imageWidths l) ≡ true → same (take imageBits l) (fields (imageFields (imageOf (split imageWidths l)) (split imageWidths l ‼ coderType))) ≡ true
 unfolding imageFields imageOf widths values total split
 image-back l h e =
     let v : List ℕ = split imageWidths l in
-    let n : ℕ → ℕ = λ i. getD v i 0 in
+    let n : ℕ → ℕ = λ i. v ‼ i in
     let lt : (i : ℕ) → n i < 2 ^ getD imageWidths i 0 = split-lt imageWidths l in
-    let k = parts (eqb (n 5) 0) ((not (isOne (n 7)) || eqb (n 8) 0) ∷ eqb (n 9) 0 ∷ eqb (n 12) 0 ∷ []) e in
-    split-same (imageFields (imageOf v) (coderType v)) l h
-    (λ i. small 8 (n 0) (lt 0) i ∷ wrapped 16 (n 1) (lt 1) i ∷ wrapped 16 (n 2) (lt 2) i ∷ wrapped 16 (n 3) (lt 3) i ∷ flagged (n 4) (lt 4) i ∷ eqb-true (n 5) 0 (k .0) i
-    ∷ wrapped 4 (n 6) (lt 6) i ∷ flagged (n 7) (lt 7) i ∷ unless-back (isOne (n 7)) (n 8) (lt 8) (k .1 .0) i ∷ eqb-true (n 9) 0 (k .1 .1 .0) i ∷ wrapped 3 (n 10) (lt 10) i
-    ∷ small 1 (n 11) (lt 11) i ∷ eqb-true (n 12) 0 (k .1 .1 .1 .0) i ∷ [])
+    let k = parts (eqb (n reservedBehindType) 0) (imageTests v) e in
+    split-same (imageFields (imageOf v) (v ‼ coderType)) l h
+    (λ i. small 8 (n userData) (lt userData) i ∷ wrapped 16 (n xSize) (lt xSize) i ∷ wrapped 16 (n ySize) (lt ySize) i ∷ wrapped 16 (n zSize) (lt zSize) i ∷ flagged (n sampleType) (lt sampleType) i
+    ∷ eqb-true (n reservedBehindType) 0 (k .0) i ∷ eqb-true (n largeRangeFlag) 0 (k .1 .0) i ∷ wrapped 4 (n dynamicRange) (lt dynamicRange) i ∷ flagged (n encodingOrder) (lt encodingOrder) i
+    ∷ unless-back (isOne (n encodingOrder)) (n interleavingDepth) (lt interleavingDepth) (k .1 .1 .0) i ∷ eqb-true (n reservedBeforeWord) 0 (k .1 .1 .1 .0) i ∷ wrapped 3 (n wordSize) (lt wordSize) i
+    ∷ small 1 (n coderType) (lt coderType) i ∷ eqb-true (n hybridCoder) 0 (k .1 .1 .1 .1 .0) i ∷ eqb-true (n reservedBehindCoder) 0 (k .1 .1 .1 .1 .1 .0) i
+    ∷ eqb-true (n fidelityControl) 0 (k .1 .1 .1 .1 .1 .1 .0) i ∷ eqb-true (n reservedBehindFidelity) 0 (k .1 .1 .1 .1 .1 .1 .1 .0) i ∷ eqb-true (n supplementaryTables) 0 (k .1 .1 .1 .1 .1 .1 .1 .1 .0) i ∷ [])
 
-pub image-plain : (l : List Bool) → imageBits ≤ length l → same (take imageBits l) (fields (imageFields (imageOf (split imageWidths l)) (coderType (split imageWidths l)))) ≡ imagePlain (split imageWidths l)
+pub image-plain : (l : List Bool) → imageBits ≤ length l → same (take imageBits l) (fields (imageFields (imageOf (split imageWidths l)) (split imageWidths l ‼ coderType))) ≡ imagePlain (split imageWidths l)
 image-plain l h = both _ _ (image-forth l) (image-back l h)
 
 -- ---- the predictor
@@ -120,30 +126,31 @@ raised-back v h =
     small 4 v h ∙ ap (λ (x : ℤ). natAbs x % 2 ^ 4) (sym e)
 
 abbrev predictorTests : List ℕ → List Bool
-predictorTests v = eqb (getD v 3 0) 0 ∷ eqb (getD v 5 0) 0 ∷ eqb (getD v 11 0) 0 ∷ eqb (getD v 13 0) (getD v 12 0) ∷ (isOne (getD v 12 0) || eqb (getD v 14 0) 0) ∷ []
+predictorTests v = eqb (v ‼ representativeFlag) 0 ∷ eqb (v ‼ exponentOffsetFlag) 0 ∷ eqb (v ‼ narrowSums) 0 ∷ eqb (v ‼ exponentOffsetTableFlag) 0 ∷ eqb (v ‼ weightTableFlag) (v ‼ weightMethod) ∷ (isOne (v ‼ weightMethod) || eqb (v ‼ weightPrecision) 0) ∷ []
 
 predictor-forth : (l : List Bool) → same (take predictorBits l) (fields (predictorFields (predictorOf (split predictorWidths l)))) ≡ true → predictorPlain (split predictorWidths l) ≡ true
 unfolding predictorFields predictorOf widths values total
 predictor-forth l e =
     let v : List ℕ = split predictorWidths l in
     let q : v ≡ values (predictorFields (predictorOf v)) = same-split (predictorFields (predictorOf v)) l e in
-    let at : (i : ℕ) → getD v i 0 ≡ getD (values (predictorFields (predictorOf v))) i 0 = λ i. ap (λ (x : List ℕ). getD x i 0) q in
-    whole (eqb (getD v 0 0) 0) (predictorTests v)
-    (eq-eqb _ 0 (at 0), (eq-eqb _ 0 (at 3), (eq-eqb _ 0 (at 5), (eq-eqb _ 0 (at 11), (eq-eqb (getD v 13 0) (getD v 12 0) (at 13 ∙ sym (at 12)), (where-forth (isOne (getD v 12 0)) (getD v 14 0) (predictorOf v .precision) (at 14), tt))))))
+    let at : (i : ℕ) → v ‼ i ≡ values (predictorFields (predictorOf v)) ‼ i = λ i. ap (λ (x : List ℕ). x ‼ i) q in
+    whole (eqb (v ‼ reservedInFront) 0) (predictorTests v)
+    (eq-eqb _ 0 (at reservedInFront), (eq-eqb _ 0 (at representativeFlag), (eq-eqb _ 0 (at exponentOffsetFlag), (eq-eqb _ 0 (at narrowSums), (eq-eqb _ 0 (at exponentOffsetTableFlag), (eq-eqb (v ‼ weightTableFlag) (v ‼ weightMethod) (at weightTableFlag ∙ sym (at weightMethod)), (where-forth (isOne (v ‼ weightMethod)) (v ‼ weightPrecision) (predictorOf v .precision) (at weightPrecision), tt)))))))
 
 predictor-back : (I : Image) (l : List Bool) → predictorBits ≤ length l → predictorLegal I (predictorOf (split predictorWidths l)) ≡ true → predictorPlain (split predictorWidths l) ≡ true
     → same (take predictorBits l) (fields (predictorFields (predictorOf (split predictorWidths l)))) ≡ true
 unfolding predictorFields predictorOf widths values total split
 predictor-back I l h g e =
     let v : List ℕ = split predictorWidths l in
-    let n : ℕ → ℕ = λ i. getD v i 0 in
+    let n : ℕ → ℕ = λ i. v ‼ i in
     let lt : (i : ℕ) → n i < 2 ^ getD predictorWidths i 0 = split-lt predictorWidths l in
-    let k = parts (eqb (n 0) 0) (predictorTests v) e in
+    let k = parts (eqb (n reservedInFront) 0) (predictorTests v) e in
     split-same (predictorFields (predictorOf v)) l h
-    (λ i. eqb-true (n 0) 0 (k .0) i ∷ small 4 (n 1) (lt 1) i ∷ flagged (n 2) (lt 2) i ∷ eqb-true (n 3) 0 (k .1 .0) i ∷ flagged (n 4) (lt 4) i ∷ eqb-true (n 5) 0 (k .1 .1 .0) i
-    ∷ wrapped 6 (n 6) (lt 6) i ∷ shifted 4 (n 7) (lt 7) i ∷ exponent-back (n 8) (lt 8) (legal-predictor I (predictorOf v) g .interval-power) i
-    ∷ raised-back (n 9) (lt 9) i ∷ raised-back (n 10) (lt 10) i ∷ eqb-true (n 11) 0 (k .1 .1 .1 .0) i ∷ flagged (n 12) (lt 12) i
-    ∷ (eqb-true (n 13) (n 12) (k .1 .1 .1 .1 .0) ∙ flagged (n 12) (lt 12)) i ∷ where-back (isOne (n 12)) (n 14) (lt 14) (k .1 .1 .1 .1 .1 .0) i ∷ [])
+    (λ i. eqb-true (n reservedInFront) 0 (k .0) i ∷ eqb-true (n representativeFlag) 0 (k .1 .0) i ∷ small 4 (n predictionBands) (lt predictionBands) i ∷ flagged (n predictionMode) (lt predictionMode) i
+    ∷ eqb-true (n exponentOffsetFlag) 0 (k .1 .1 .0) i ∷ flagged (n localSumType) (lt localSumType) i ∷ eqb-true (n narrowSums) 0 (k .1 .1 .1 .0) i ∷ wrapped 6 (n registerSize) (lt registerSize) i
+    ∷ shifted 4 (n weightResolution) (lt weightResolution) i ∷ exponent-back (n exponentInterval) (lt exponentInterval) (legal-predictor I (predictorOf v) g .interval-power) i ∷ raised-back (n initialExponent) (lt initialExponent) i
+    ∷ raised-back (n finalExponent) (lt finalExponent) i ∷ eqb-true (n exponentOffsetTableFlag) 0 (k .1 .1 .1 .1 .0) i ∷ flagged (n weightMethod) (lt weightMethod) i
+    ∷ (eqb-true (n weightTableFlag) (n weightMethod) (k .1 .1 .1 .1 .1 .0) ∙ flagged (n weightMethod) (lt weightMethod)) i ∷ where-back (isOne (n weightMethod)) (n weightPrecision) (lt weightPrecision) (k .1 .1 .1 .1 .1 .1 .0) i ∷ [])
 
 pub predictor-plain : (I : Image) (l : List Bool) → predictorBits ≤ length l
     → (predictorLegal I (predictorOf (split predictorWidths l)) && same (take predictorBits l) (fields (predictorFields (predictorOf (split predictorWidths l)))))
@@ -156,16 +163,16 @@ coder-forth : (l : List Bool) → same (take coderBits l) (fields (coderFields (
 unfolding coderFields coderOf widths values total
 coder-forth l e =
     let v : List ℕ = split coderWidths l in
-    ones-forth (isOne (getD v 4 0)) (getD v 3 0) (coderOf v .constant) (ap (λ (x : List ℕ). getD x 3 0) (same-split (coderFields (coderOf v)) l e))
+    ones-forth (isOne (v ‼ accumulatorTableFlag)) (v ‼ accumulatorConstant) (coderOf v .constant) (ap (λ (x : List ℕ). x ‼ accumulatorConstant) (same-split (coderFields (coderOf v)) l e))
 
 coder-back : (l : List Bool) → coderBits ≤ length l → coderPlain (split coderWidths l) ≡ true → same (take coderBits l) (fields (coderFields (coderOf (split coderWidths l)))) ≡ true
 unfolding coderFields coderOf widths values total split
 coder-back l h e =
     let v : List ℕ = split coderWidths l in
-    let n : ℕ → ℕ = λ i. getD v i 0 in
+    let n : ℕ → ℕ = λ i. v ‼ i in
     let lt : (i : ℕ) → n i < 2 ^ getD coderWidths i 0 = split-lt coderWidths l in
     split-same (coderFields (coderOf v)) l h
-    (λ i. wrapped 5 (n 0) (lt 0) i ∷ shifted 3 (n 1) (lt 1) i ∷ wrapped 3 (n 2) (lt 2) i ∷ ones-back (isOne (n 4)) (n 3) (lt 3) e i ∷ flagged (n 4) (lt 4) i ∷ [])
+    (λ i. wrapped 5 (n unaryLimit) (lt unaryLimit) i ∷ shifted 3 (n rescalingSize) (lt rescalingSize) i ∷ wrapped 3 (n initialCount) (lt initialCount) i ∷ ones-back (isOne (n accumulatorTableFlag)) (n accumulatorConstant) (lt accumulatorConstant) e i ∷ flagged (n accumulatorTableFlag) (lt accumulatorTableFlag) i ∷ [])
 
 pub coder-plain : (l : List Bool) → coderBits ≤ length l → same (take coderBits l) (fields (coderFields (coderOf (split coderWidths l)))) ≡ coderPlain (split coderWidths l)
 coder-plain l h = both _ _ (coder-forth l) (coder-back l h)

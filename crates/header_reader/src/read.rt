@@ -15,6 +15,7 @@ ghost use Rattle.header_values.specs.Progress.{ImageDone, PredictorDone, Weight
 ghost use Rattle.header_reader.specs.Answers.{imageRead, predictorRead, coderRead, tableRead, HeaderMeans};
 use header::fields::number_at;
 use header::fields::numbers;
+use header::places;
 use header::sizes::CODER_BITS;
 use header::sizes::IMAGE_BITS;
 use header::sizes::PREDICTOR_END;
@@ -70,17 +71,12 @@ fn ends_before(file: &[u8], end: usize) -> bool
 }
 
 // The numbers of table 5-1.
-fn image_numbers(file: &[u8]) -> [u32; 13]
+fn image_numbers(file: &[u8]) -> [u32; 18]
     requires { ⌜ imageBits ≤ length (unpack (now file)) ⌝ }
     ensures { λ r. ⌜ r ≡ split imageWidths (unpack (now (file .entry))) ⌝ }
 {
-    let mut values = [0u32; 13];
-    numbers(
-        file,
-        0,
-        &[8, 16, 16, 16, 1, 2, 4, 1, 16, 2, 3, 1, 10],
-        &mut values,
-    );
+    let mut values = [0u32; 18];
+    numbers(file, 0, &places::IMAGE_WIDTHS, &mut values);
     values
 }
 
@@ -96,7 +92,7 @@ fn read_image(file: &[u8]) -> ImageRead
     if !(image_legal(image) & image_plain(v)) {
         return ImageRead::Refused(Refusal::IllegalField);
     }
-    if v[11] == 1 {
+    if v[places::CODER_TYPE] == 1 {
         return ImageRead::Refused(Refusal::BlockCoder);
     }
     if !limited(image) {
@@ -106,17 +102,12 @@ fn read_image(file: &[u8]) -> ImageRead
 }
 
 // The numbers of table 5-2.
-fn predictor_numbers(file: &[u8]) -> [u32; 15]
+fn predictor_numbers(file: &[u8]) -> [u32; 16]
     requires { ⌜ predictorEnd ≤ length (unpack (now file)) ⌝ }
     ensures { λ r. ⌜ r ≡ split predictorWidths (drop imageBits (unpack (now (file .entry)))) ⌝ }
 {
-    let mut values = [0u32; 15];
-    numbers(
-        file,
-        IMAGE_BITS,
-        &[2, 4, 1, 1, 1, 1, 6, 4, 4, 4, 4, 1, 1, 1, 5],
-        &mut values,
-    );
+    let mut values = [0u32; 16];
+    numbers(file, IMAGE_BITS, &places::PREDICTOR_WIDTHS, &mut values);
     values
 }
 
@@ -141,7 +132,7 @@ fn coder_numbers(file: &[u8], at: usize) -> [u32; 5]
     ensures { λ r. ⌜ r ≡ split coderWidths (drop at (unpack (now (file .entry)))) ⌝ }
 {
     let mut values = [0u32; 5];
-    numbers(file, at, &[5, 3, 3, 4, 1], &mut values);
+    numbers(file, at, &places::CODER_WIDTHS, &mut values);
     values
 }
 

@@ -2,10 +2,11 @@
 ghost use mathlib.Core.Path.{_≡_};
 ghost use mathlib.Core.Bool.{cond};
 ghost use Prim.Native.Nat.{ℕ, _≤_, _<_, _^_};
-ghost use lib.ListN.{getD};
+ghost use Rattle.header.specs.Places.{_‼_, userData, weightResolution, exponentInterval, initialExponent, finalExponent, rescalingSize};
 ghost use Rattle.header.specs.Parts.{unwrapped, imageOf, predictorOf, coderOf};
 ghost use Rattle.header.specs.Plain.{imagePlain, predictorPlain, coderPlain};
 use header::fields::chosen;
+use header::places;
 use settings::Coder;
 use settings::Image;
 use settings::Predictor;
@@ -19,75 +20,88 @@ fn unwrapped(m: u32, v: u32) -> u32
 }
 
 // The image settings of table 5-1: M is no setting where bands are sequential.
-pub fn image_of(v: [u32; 13]) -> Image
-    requires { ⌜ getD v 0 0 < 256 ⌝ }
+pub fn image_of(v: [u32; 18]) -> Image
+    requires { ⌜ v ‼ userData < 256 ⌝ }
     ensures { λ r. ⌜ r ≡ imageOf v ⌝ }
 {
-    let sequential = v[7] == 1;
+    let sequential = v[places::ENCODING_ORDER] == 1;
     Image {
-        user: v[0] as u8,
-        nx: unwrapped(65536, v[1]),
-        ny: unwrapped(65536, v[2]),
-        nz: unwrapped(65536, v[3]),
-        signed: v[4] == 1,
-        depth: unwrapped(16, v[6]),
+        user: v[places::USER_DATA] as u8,
+        nx: unwrapped(65536, v[places::X_SIZE]),
+        ny: unwrapped(65536, v[places::Y_SIZE]),
+        nz: unwrapped(65536, v[places::Z_SIZE]),
+        signed: v[places::SAMPLE_TYPE] == 1,
+        depth: unwrapped(16, v[places::DYNAMIC_RANGE]),
         sequential,
-        interleave: chosen(sequential, 0, unwrapped(65536, v[8])),
-        word: unwrapped(8, v[10]),
+        interleave: chosen(
+            sequential,
+            0,
+            unwrapped(65536, v[places::INTERLEAVING_DEPTH]),
+        ),
+        word: unwrapped(8, v[places::WORD_SIZE]),
     }
 }
 
 // The reserved bits are zero, and so is M where bands are sequential.
-pub fn image_plain(v: [u32; 13]) -> bool
+pub fn image_plain(v: [u32; 18]) -> bool
     ensures { λ r. ⌜ r ≡ imagePlain v ⌝ }
 {
-    (v[5] == 0) & (!(v[7] == 1) | (v[8] == 0)) & (v[9] == 0) & (v[12] == 0)
+    (v[places::RESERVED_BEHIND_TYPE] == 0)
+        & (v[places::LARGE_RANGE_FLAG] == 0)
+        & (!(v[places::ENCODING_ORDER] == 1) | (v[places::INTERLEAVING_DEPTH] == 0))
+        & (v[places::RESERVED_BEFORE_WORD] == 0)
+        & (v[places::HYBRID_CODER] == 0)
+        & (v[places::RESERVED_BEHIND_CODER] == 0)
+        & (v[places::FIDELITY_CONTROL] == 0)
+        & (v[places::RESERVED_BEHIND_FIDELITY] == 0)
+        & (v[places::SUPPLEMENTARY_TABLES] == 0)
 }
 
 // The predictor settings of table 5-2: Q is no setting beside default weights.
-pub fn predictor_of(v: [u32; 15]) -> Predictor
-    requires { ⌜ (getD v 7 0 < 16) × (getD v 8 0 < 16) × (getD v 9 0 < 16) × (getD v 10 0 < 16) ⌝ }
+pub fn predictor_of(v: [u32; 16]) -> Predictor
+    requires { ⌜ (v ‼ weightResolution < 16) × (v ‼ exponentInterval < 16) × (v ‼ initialExponent < 16) × (v ‼ finalExponent < 16) ⌝ }
     ensures { λ r. ⌜ r ≡ predictorOf v ⌝ }
 {
-    let custom = v[12] == 1;
+    let custom = v[places::WEIGHT_METHOD] == 1;
     Predictor {
-        bands: v[1],
-        reduced: v[2] == 1,
-        column: v[4] == 1,
-        register: unwrapped(64, v[6]),
-        resolution: v[7] + 4,
-        interval: power(v[8] + 4),
-        vmin: v[9] as i32 - 6,
-        vmax: v[10] as i32 - 6,
+        bands: v[places::PREDICTION_BANDS],
+        reduced: v[places::PREDICTION_MODE] == 1,
+        column: v[places::LOCAL_SUM_TYPE] == 1,
+        register: unwrapped(64, v[places::REGISTER_SIZE]),
+        resolution: v[places::WEIGHT_RESOLUTION] + 4,
+        interval: power(v[places::EXPONENT_INTERVAL] + 4),
+        vmin: v[places::INITIAL_EXPONENT] as i32 - 6,
+        vmax: v[places::FINAL_EXPONENT] as i32 - 6,
         custom,
-        precision: chosen(custom, v[14], 0),
+        precision: chosen(custom, v[places::WEIGHT_PRECISION], 0),
     }
 }
 
 // The reserved bits are zero, the two flags of the weight table agree, and Q is zero beside default weights.
-pub fn predictor_plain(v: [u32; 15]) -> bool
+pub fn predictor_plain(v: [u32; 16]) -> bool
     ensures { λ r. ⌜ r ≡ predictorPlain v ⌝ }
 {
-    (v[0] == 0)
-        & (v[3] == 0)
-        & (v[5] == 0)
-        & (v[11] == 0)
-        & (v[13] == v[12])
-        & ((v[12] == 1) | (v[14] == 0))
+    (v[places::RESERVED_IN_FRONT] == 0)
+        & (v[places::REPRESENTATIVE_FLAG] == 0)
+        & (v[places::EXPONENT_OFFSET_FLAG] == 0)
+        & (v[places::NARROW_SUMS] == 0)
+        & (v[places::EXPONENT_OFFSET_TABLE_FLAG] == 0)
+        & (v[places::WEIGHT_TABLE_FLAG] == v[places::WEIGHT_METHOD])
+        & ((v[places::WEIGHT_METHOD] == 1) | (v[places::WEIGHT_PRECISION] == 0))
 }
 
 // The coder settings of table 5-3: K is no setting beside its table.
 pub fn coder_of(v: [u32; 5]) -> Coder
-    requires { ⌜ getD v 1 0 < 8 ⌝ }
+    requires { ⌜ v ‼ rescalingSize < 8 ⌝ }
     ensures { λ r. ⌜ r ≡ coderOf v ⌝ }
 {
-    let tabled = v[4] == 1;
+    let tabled = v[places::ACCUMULATOR_TABLE_FLAG] == 1;
     Coder {
-        unary: unwrapped(32, v[0]),
-        rescaling: v[1] + 4,
-        initial: unwrapped(8, v[2]),
+        unary: unwrapped(32, v[places::UNARY_LIMIT]),
+        rescaling: v[places::RESCALING_SIZE] + 4,
+        initial: unwrapped(8, v[places::INITIAL_COUNT]),
         tabled,
-        constant: chosen(tabled, 0, v[3]),
+        constant: chosen(tabled, 0, v[places::ACCUMULATOR_CONSTANT]),
     }
 }
 
@@ -95,5 +109,5 @@ pub fn coder_of(v: [u32; 5]) -> Coder
 pub fn coder_plain(v: [u32; 5]) -> bool
     ensures { λ r. ⌜ r ≡ coderPlain v ⌝ }
 {
-    !(v[4] == 1) | (v[3] == 15)
+    !(v[places::ACCUMULATOR_TABLE_FLAG] == 1) | (v[places::ACCUMULATOR_CONSTANT] == 15)
 }

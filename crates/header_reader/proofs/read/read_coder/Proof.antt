@@ -5,13 +5,14 @@ use mathlib.Core.Path.{_≡_, sym, ap, _∙_}
 use Prim.Native.Nat.{_+_}
 use native.Mathlib.Omega.{arith}
 use lib.Dec.{ltb, eqb}
-use lib.ListN.{length, drop, getD}
+use lib.ListN.{length, drop}
 use borrow.Author.Needs.{needs}
 use borrow.Author.Tests.{ltb-false}
 use Rattle.bitstream.specs.Stream.{unpack}
 use Rattle.header_reader.proofs.Answering.{PartSeen, missing, absent, illegal, legal-part, coder-part}
 use Rattle.header_reader.specs.Answers.{coderRead}
 use Rattle.header.specs.FieldLaws.{split-lt}
+use Rattle.header.specs.Places.{rescalingSize}
 use Rattle.header.specs.Parts.{coderWidths, coderBits}
 use Rattle.header.specs.Read.{readCoder}
 use Rattle.refusals.specs.declared.Refusal.the-variants.{EndsInHeader, HouseLimit, BlockCoder}
@@ -47,7 +48,7 @@ coder-numbers-requires : tie.Need-coder-numbers-requires
 coder-numbers-requires c κs = (c .before .before .before .pre, ltb-false _ _ (sym (c .before .ends-before .ensures) ∙ c .if1 .left))
 
 coder-of-requires : tie.Need-coder-of-requires
-coder-of-requires c κs = rw (c .coder-numbers .ensures) (split-lt coderWidths (drop (c .before .before .before .before .args .at) (unpack (c .before .before .before .before .args .file .now))) 1)
+coder-of-requires c κs = rw (c .coder-numbers .ensures) (split-lt coderWidths (drop (c .before .before .before .before .args .at) (unpack (c .before .before .before .before .args .file .now))) rescalingSize)
 
 coder-legal-requires : tie.Need-coder-legal-requires
 coder-legal-requires c κs = search needs

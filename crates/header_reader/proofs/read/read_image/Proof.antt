@@ -5,13 +5,14 @@ use mathlib.Core.Path.{_≡_, sym, ap, _∙_}
 use Prim.Native.Nat.{_+_}
 use native.Mathlib.Omega.{arith}
 use lib.Dec.{ltb, eqb}
-use lib.ListN.{length, drop, getD}
+use lib.ListN.{length, drop}
 use borrow.Author.Needs.{needs}
 use borrow.Author.Tests.{ltb-false}
 use Rattle.bitstream.specs.Stream.{unpack}
 use Rattle.header_reader.proofs.Answering.{PartSeen, absent, illegal, block-coder, past-limit, whole-image, image-part}
 use Rattle.header_reader.specs.Answers.{imageRead}
 use Rattle.header.specs.FieldLaws.{split-lt}
+use Rattle.header.specs.Places.{_‼_, userData, coderType}
 use Rattle.header.specs.Parts.{imageWidths, imageBits}
 use Rattle.header.specs.Read.{readImage}
 use Rattle.refusals.specs.declared.Refusal.the-variants.{EndsInHeader, HouseLimit, BlockCoder}
@@ -31,7 +32,7 @@ read-absent c = absent imageBits (unpack (c .before .before .before .args .file 
 
 -- the part, once its fields are read
 seen : (c : tie.After-image-plain) → let l = unpack (c .before .before .before .before .before .before .before .args .file .now) in let v = c .before .before .before .image-numbers .result in let I = c .before .before .image-of .result in
-    PartSeen (readImage l) imageBits (c .before .image-legal .result && c .image-plain .result) (eqb (getD v 11 0) 1 ⇒ BlockCoder ∷ not (limited I) ⇒ HouseLimit ∷ []) I l
+    PartSeen (readImage l) imageBits (c .before .image-legal .result && c .image-plain .result) (eqb (v ‼ coderType) 1 ⇒ BlockCoder ∷ not (limited I) ⇒ HouseLimit ∷ []) I l
 seen c = image-part _ (c .before .before .before .image-numbers .result) _ _ _ (there (c .before .before .before .before)) (c .before .before .before .image-numbers .ensures) (c .before .before .image-of .ensures) (c .before .image-legal .ensures) (c .image-plain .ensures)
 
 ends-before-requires : tie.Need-ends-before-requires
@@ -44,7 +45,7 @@ image-numbers-requires : tie.Need-image-numbers-requires
 image-numbers-requires c κs = ltb-false _ _ (there c)
 
 image-of-requires : tie.Need-image-of-requires
-image-of-requires c κs = rw (c .image-numbers .ensures) (split-lt imageWidths (unpack (c .before .before .before .before .args .file .now)) 0)
+image-of-requires c κs = rw (c .image-numbers .ensures) (split-lt imageWidths (unpack (c .before .before .before .before .args .file .now)) userData)
 
 image-legal-requires : tie.Need-image-legal-requires
 image-legal-requires c κs = search needs

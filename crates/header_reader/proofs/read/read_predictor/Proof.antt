@@ -5,13 +5,14 @@ use mathlib.Core.Path.{_≡_, sym, ap, _∙_}
 use Prim.Native.Nat.{_+_}
 use native.Mathlib.Omega.{arith}
 use lib.Dec.{ltb, eqb}
-use lib.ListN.{length, drop, getD}
+use lib.ListN.{length, drop}
 use borrow.Author.Needs.{needs}
 use borrow.Author.Tests.{ltb-false}
 use Rattle.bitstream.specs.Stream.{unpack}
 use Rattle.header_reader.proofs.Answering.{PartSeen, missing, absent, illegal, legal-part, predictor-part}
 use Rattle.header_reader.specs.Answers.{predictorRead}
 use Rattle.header.specs.FieldLaws.{split-lt}
+use Rattle.header.specs.Places.{weightResolution, exponentInterval, initialExponent, finalExponent}
 use Rattle.header.specs.Parts.{predictorWidths, imageBits, predictorBits}
 use Rattle.header.specs.Read.{readPredictor}
 use Rattle.refusals.specs.declared.Refusal.the-variants.{EndsInHeader, HouseLimit, BlockCoder}
@@ -45,7 +46,7 @@ predictor-numbers-requires c κs = ltb-false _ _ (sym (c .before .ends-before .e
 
 predictor-of-requires : tie.Need-predictor-of-requires
 predictor-of-requires c κs = rw (c .predictor-numbers .ensures)
-    (let lt = split-lt predictorWidths (drop imageBits (unpack (c .before .before .before .before .args .file .now))) in (lt 7, lt 8, lt 9, lt 10))
+    (let lt = split-lt predictorWidths (drop imageBits (unpack (c .before .before .before .before .args .file .now))) in (lt weightResolution, lt exponentInterval, lt initialExponent, lt finalExponent))
 
 predictor-legal-requires : tie.Need-predictor-legal-requires
 predictor-legal-requires c κs = search needs

@@ -1,6 +1,6 @@
 -- Each field of the settings is what the definition takes from the numbers.
 use Prim.Native.Nat.{_+_}
-use lib.ListN.{getD}
+use Rattle.header.specs.Places.{_‼_, rescalingSize, accumulatorTableFlag}
 use Rattle.header.specs.Parts.{isOne, coderOf}
 use borrow.Author.Needs.{needs}
 use Rattle.header_values.proofs.parts.coder_of.Statement.{statement}
@@ -37,9 +37,9 @@ returns : tie.Need-returns
 unfolding coderOf
 returns c = λ i. record {
   unary = c .before .before .unwrapped .ensures i;
-  rescaling = getD (c .before .before .before .args .t1) 1 0 + 4;
+  rescaling = c .before .before .before .args .t1 ‼ rescalingSize + 4;
   initial = c .before .unwrapped2 .ensures i;
-  tabled = isOne (getD (c .before .before .before .args .t1) 4 0);
+  tabled = isOne (c .before .before .before .args .t1 ‼ accumulatorTableFlag);
   constant = c .chosen .ensures i;
 }
 

@@ -2,7 +2,7 @@
 use mathlib.Core.Path.{ap, _∙_}
 use mathlib.Core.Bool.{cond}
 use Prim.Native.Nat.{ℕ}
-use lib.ListN.{getD}
+use Rattle.header.specs.Places.{_‼_, userData, sampleType, encodingOrder}
 use Rattle.header.specs.Parts.{isOne, imageOf}
 use borrow.Author.Needs.{needs}
 use Rattle.header_values.proofs.parts.image_of.Statement.{statement}
@@ -64,14 +64,14 @@ unfolding imageOf
 returns c =
     let v = c .before .before .before .before .before .before .before .args .t1 in
     λ i. record {
-      user = getD v 0 0;
+      user = v ‼ userData;
       nx = c .before .before .before .before .before .before .unwrapped .ensures i;
       ny = c .before .before .before .before .before .unwrapped2 .ensures i;
       nz = c .before .before .before .before .unwrapped3 .ensures i;
-      signed = isOne (getD v 4 0);
+      signed = isOne (v ‼ sampleType);
       depth = c .before .before .before .unwrapped4 .ensures i;
-      sequential = isOne (getD v 7 0);
-      interleave = (c .before .chosen .ensures ∙ ap (λ (n : ℕ). cond (isOne (getD v 7 0)) 0 n) (c .before .before .unwrapped5 .ensures)) i;
+      sequential = isOne (v ‼ encodingOrder);
+      interleave = (c .before .chosen .ensures ∙ ap (λ (n : ℕ). cond (isOne (v ‼ encodingOrder)) 0 n) (c .before .before .unwrapped5 .ensures)) i;
       word = c .unwrapped6 .ensures i;
     }
 

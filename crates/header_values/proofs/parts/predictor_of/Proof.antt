@@ -1,7 +1,7 @@
 -- Each field of the settings is what the definition takes from the numbers; a number less 6 fits.
 use Prim.Native.Nat.{_+_}
 use native.Mathlib.Omega.{arith}
-use lib.ListN.{getD}
+use Rattle.header.specs.Places.{_‼_, predictionBands, predictionMode, localSumType, weightResolution, initialExponent, finalExponent, weightMethod}
 use Rattle.header.specs.Parts.{isOne, predictorOf}
 use Rattle.header.proofs.Signs.{lowered}
 use borrow.Author.Needs.{needs}
@@ -48,7 +48,7 @@ cast-t33 : tie.Need-cast-t33
 cast-t33 c = search needs
 
 sub-t34 : tie.Need-sub-t34
-sub-t34 c = lowered (getD (c .before .before .args .t1) 9 0) (omega arith) .fits
+sub-t34 c = lowered (c .before .before .args .t1 ‼ initialExponent) (omega arith) .fits
 
 array-read-t37 : tie.Need-array-read-t37
 array-read-t37 c = search needs
@@ -57,7 +57,7 @@ cast-t38 : tie.Need-cast-t38
 cast-t38 c = search needs
 
 sub-t39 : tie.Need-sub-t39
-sub-t39 c = lowered (getD (c .before .before .args .t1) 10 0) (omega arith) .fits
+sub-t39 c = lowered (c .before .before .args .t1 ‼ finalExponent) (omega arith) .fits
 
 array-read-chosen : tie.Need-array-read-chosen
 array-read-chosen c = search needs
@@ -70,15 +70,15 @@ unfolding predictorOf
 returns c =
     let v = c .before .before .before .args .t1 in
     λ i. record {
-      bands = getD v 1 0;
-      reduced = isOne (getD v 2 0);
-      column = isOne (getD v 4 0);
+      bands = v ‼ predictionBands;
+      reduced = isOne (v ‼ predictionMode);
+      column = isOne (v ‼ localSumType);
       register = c .before .before .unwrapped .ensures i;
-      resolution = getD v 7 0 + 4;
+      resolution = v ‼ weightResolution + 4;
       interval = c .before .power .ensures i;
-      vmin = lowered (getD v 9 0) (omega arith) .is i;
-      vmax = lowered (getD v 10 0) (omega arith) .is i;
-      custom = isOne (getD v 12 0);
+      vmin = lowered (v ‼ initialExponent) (omega arith) .is i;
+      vmax = lowered (v ‼ finalExponent) (omega arith) .is i;
+      custom = isOne (v ‼ weightMethod);
       precision = c .chosen .ensures i;
     }
 
