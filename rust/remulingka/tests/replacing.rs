@@ -105,6 +105,7 @@ fn every_fault(
             assert!(remulingka(&work, &forced).status.success(), "{call}:{mode}");
         }
     }
+    println!("{name}: {} calls, {runs} runs with a fault", whole.calls);
     assert!(
         killed >= 2 * whole.calls,
         "{killed} kills of {} calls",
