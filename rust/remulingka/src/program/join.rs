@@ -88,48 +88,11 @@ fn add_data(
 /// The parts in the order of their rows, at least one. They must be of one scene, and
 /// none may be missing.
 fn scene_parts(files: &[OsString]) -> Result<Vec<ScenePart>, Failure> {
-    let mut parts = Vec::new();
-    for file in files {
-        let file = PathBuf::from(file);
-        let lacking =
-            |what: &str| Failure::refused(&file, format!("{what}, so it cannot be joined"));
-        let stored = Stored::read(&file)?.ok_or_else(|| lacking("it has no stored header"))?;
-        let Some(part) = stored.part.clone() else {
-            return Err(lacking("its stored header does not say which part it is"));
-        };
-        let Some(scene) = stored.scene.clone() else {
-            return Err(lacking("it is no part that pack --split made"));
-        };
-        parts.push(ScenePart {
-            file,
-            stored,
-            part,
-            scene,
-        });
-    }
+    let parts = files.iter().map(scene_part);
+    let mut parts = parts.collect::<Result<Vec<ScenePart>, Failure>>()?;
     parts.sort_by_key(|part| part.part.window.rows.start);
     for pair in parts.windows(2) {
-        let [before, after] = pair else { continue };
-        let refused = |what: String| Err(Failure::refused(&after.file, what));
-        if before.scene != after.scene {
-            return refused(format!(
-                "this is of another scene than {}",
-                before.file.display()
-            ));
-        }
-        let (end, start) = (before.part.window.rows.end, after.part.window.rows.start);
-        if start != end {
-            let what = if start > end {
-                "are missing"
-            } else {
-                "are there twice"
-            };
-            let (from, to) = (
-                start.min(end),
-                start.max(end).min(after.part.window.rows.end),
-            );
-            return refused(format!("rows {from}:{to} before it {what}"));
-        }
+        refuse_apart(&pair[0], &pair[1])?;
     }
     refuse_missing_ends(&parts)?;
     let sums = parts.iter().filter_map(|part| part.stored.sum.as_deref());
@@ -140,6 +103,43 @@ fn scene_parts(files: &[OsString]) -> Result<Vec<ScenePart>, Failure> {
         return Err(Failure::refused(&first.file, what));
     }
     Ok(parts)
+}
+
+/// A part, by what is stored beside it.
+fn scene_part(file: &OsString) -> Result<ScenePart, Failure> {
+    let file = PathBuf::from(file);
+    let lacking = |what: &str| Failure::refused(&file, format!("{what}, so it cannot be joined"));
+    let stored = Stored::read(&file)?.ok_or_else(|| lacking("it has no stored header"))?;
+    let Some(part) = stored.part.clone() else {
+        return Err(lacking("its stored header does not say which part it is"));
+    };
+    let Some(scene) = stored.scene.clone() else {
+        return Err(lacking("it is no part that pack --split made"));
+    };
+    Ok(ScenePart {
+        file,
+        stored,
+        part,
+        scene,
+    })
+}
+
+/// Refuses two parts of which the one does not begin where the other ends.
+fn refuse_apart(before: &ScenePart, after: &ScenePart) -> Result<(), Failure> {
+    let refused = |what: String| Err(Failure::refused(&after.file, what));
+    if before.scene != after.scene {
+        let other = before.file.display();
+        return refused(format!("this is of another scene than {other}"));
+    }
+    let (end, start) = (before.part.window.rows.end, after.part.window.rows.start);
+    if start > end {
+        return refused(format!("rows {end}:{start} before it are missing"));
+    }
+    if start < end {
+        let end = end.min(after.part.window.rows.end);
+        return refused(format!("rows {start}:{end} before it are there twice"));
+    }
+    Ok(())
 }
 
 /// Refuses parts of which the first or the last is missing.

@@ -143,13 +143,23 @@ pub fn beside(picture: &Raster, spectrum: &Spectrum) -> Raster {
         canvas.set(index % picture.width, index / picture.width, colour);
     }
     draw_mark(&mut canvas, picture, spectrum);
+    let (places, unit) = match &spectrum.lengths {
+        Some(lengths) => (lengths.clone(), "nm"),
+        None => {
+            let bands = 0..spectrum.values.len();
+            (bands.map(|band| band as f64).collect(), "band")
+        }
+    };
     let area = Area {
         left: picture.width + LEFT,
         top: TOP,
         width: WIDTH - LEFT - RIGHT,
         height: height - TOP - BOTTOM,
+        places: ends(&places),
+        values: ends(&spectrum.values),
     };
-    draw_spectrum(&mut canvas, &area, spectrum);
+    draw_axes(&mut canvas, &area, unit);
+    draw_line(&mut canvas, &area, &places, &spectrum.values);
     Raster {
         width,
         height,
@@ -178,59 +188,69 @@ fn draw_mark(canvas: &mut Canvas, picture: &Raster, spectrum: &Spectrum) {
     }
 }
 
-/// Where the spectrum is drawn.
+/// Where the spectrum is drawn, and which places and values its edges are.
 struct Area {
     left: usize,
     top: usize,
     width: usize,
     height: usize,
+    places: [f64; 2],
+    values: [f64; 2],
 }
 
-fn draw_spectrum(canvas: &mut Canvas, area: &Area, spectrum: &Spectrum) {
-    let count = spectrum.values.len();
-    let places = match &spectrum.lengths {
-        Some(lengths) => lengths.clone(),
-        None => (0..count).map(|band| band as f64).collect(),
-    };
-    let ([first, last], [low, high]) = (ends(&places), ends(&spectrum.values));
-    let (bottom, right) = (area.top + area.height, area.left + area.width);
-    let across =
-        |place: f64| area.left as f64 + (place - first) / (last - first) * area.width as f64;
-    let up = |value: f64| bottom as f64 - (value - low) / (high - low) * area.height as f64;
-    let marks = |from: f64, to: f64, step: f64| {
-        let first = (from / step).ceil() as i64;
-        (first..)
-            .map(move |index| index as f64 * step)
-            .take_while(move |mark| *mark <= to)
-    };
-    for value in marks(low, high, step_of(high - low, 6.0)) {
-        let y = up(value) as usize;
+impl Area {
+    fn bottom(&self) -> usize {
+        self.top + self.height
+    }
+
+    /// How far to the right a place is.
+    fn across(&self, place: f64) -> f64 {
+        let [first, last] = self.places;
+        self.left as f64 + (place - first) / (last - first) * self.width as f64
+    }
+
+    /// How far down a value is.
+    fn down(&self, value: f64) -> f64 {
+        let [low, high] = self.values;
+        self.bottom() as f64 - (value - low) / (high - low) * self.height as f64
+    }
+}
+
+/// The round numbers between two ends.
+fn marks([from, to]: [f64; 2]) -> impl Iterator<Item = f64> {
+    let step = step_of(to - from, 6.0);
+    let first = (from / step).ceil() as i64;
+    let marks = (first..).map(move |index| index as f64 * step);
+    marks.take_while(move |mark| *mark <= to)
+}
+
+/// Draws the axes with their numbers.
+fn draw_axes(canvas: &mut Canvas, area: &Area, unit: &str) {
+    let bottom = area.bottom();
+    for value in marks(area.values) {
+        let y = area.down(value) as usize;
         canvas.box_of([area.left, y], [area.width, 1], GREY);
         let text = value.to_string();
         let x = area.left.saturating_sub(width_of(&text) + 6);
         canvas.text([x, y.saturating_sub(5)], &text);
     }
-    for place in marks(first, last, step_of(last - first, 6.0)) {
-        let x = across(place) as usize;
+    for place in marks(area.places) {
+        let x = area.across(place) as usize;
         canvas.box_of([x, area.top], [1, area.height], GREY);
         let text = place.to_string();
         canvas.text([x.saturating_sub(width_of(&text) / 2), bottom + 8], &text);
     }
-    let unit = if spectrum.lengths.is_some() {
-        "nm"
-    } else {
-        "band"
-    };
+    let right = area.left + area.width;
     canvas.text([right - width_of(unit), bottom + 24], unit);
     canvas.box_of([area.left, area.top], [1, area.height], BLACK);
     canvas.box_of([area.left, bottom], [area.width, 1], BLACK);
-    let mut points: Vec<[f64; 2]> = Vec::with_capacity(count);
-    points.extend(
-        places
-            .iter()
-            .zip(&spectrum.values)
-            .map(|(place, value)| [across(*place), up(*value)]),
-    );
+}
+
+/// Draws the line through a pixel's values.
+fn draw_line(canvas: &mut Canvas, area: &Area, places: &[f64], values: &[f64]) {
+    let points = places.iter().zip(values);
+    let points = points.map(|(place, value)| [area.across(*place), area.down(*value)]);
+    let mut points: Vec<[f64; 2]> = points.collect();
     // Bands need not stand in the order of their wavelengths.
     points.sort_by(|one, other| one[0].total_cmp(&other[0]));
     for pair in points.windows(2) {

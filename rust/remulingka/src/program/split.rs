@@ -54,9 +54,9 @@ fn part_rows(arguments: &Arguments, window: &Window) -> Result<Vec<Range<usize>>
     Ok(starts.map(|start| start..end_of(start)).collect())
 }
 
-/// Packs an image in parts of some rows, one after the other. Each stored header says
-/// which rows its part has, and all have in common a sum over all parts' sums, so that
-/// parts of two scenes are never joined.
+/// Packs an image in parts of some rows. Each stored header says which rows its part
+/// has, and all have in common a sum over all parts' sums, so that parts of two scenes
+/// are never joined.
 pub fn pack_parts(
     arguments: &Arguments,
     progress: &Progress,
@@ -66,40 +66,19 @@ pub fn pack_parts(
     if is_dash(&job.output) || is_dash(&image.data) || arguments.flag("bare") {
         return Err(arguments.usage("--split is not for standard input or output, nor for --bare"));
     }
-    let rows = part_rows(arguments, &image.window)?;
-    let names: Vec<PathBuf> = (1..=rows.len())
-        .map(|number| part_name(&job.output, number))
+    let rows = part_rows(arguments, &image.window)?.into_iter();
+    let parts: Vec<(PathBuf, Range<usize>)> = rows
+        .enumerate()
+        .map(|(index, rows)| (part_name(&job.output, index + 1), rows))
         .collect();
-    for name in &names {
+    for (name, _) in &parts {
         guard_output(arguments, image, &job.image, name)?;
     }
-    let mut files = Replacement::new(arguments.flag("force"));
-    let (mut parts, mut bytes) = (Vec::new(), 0);
-    for (rows, name) in rows.into_iter().zip(&names) {
-        let (shown, count) = (name.display(), names.len());
-        progress.show(&format!("{shown}: {} of {count}", parts.len() + 1));
-        let mut packed = pack_rows(image, rows)?;
-        files.add(name, |writer| writer.write_all(&packed.cube))?;
-        bytes += packed.cube.len();
-        if parts.is_empty() {
-            say_dropped(image, &packed, false);
-        }
-        let sum = sum_of(&packed.cube);
-        // The cube is on the disk; memory need not hold it too.
-        packed.cube = Vec::new();
-        parts.push((packed, sum));
-    }
-    let (Some(first), Some(last)) = (names.first(), names.last()) else {
+    let (Some((first, _)), Some((last, _))) = (parts.first(), parts.last()) else {
         return Err(Failure::refused(&job.image, "this image has no rows"));
     };
-    let sums: String = parts.iter().map(|(_, sum)| sum.as_str()).collect();
-    let scene = Scene {
-        identity: sum_of(sums.as_bytes()),
-        rows: image.window.rows.clone(),
-    };
-    for ((packed, sum), name) in parts.iter().zip(&names) {
-        files.add_label(&stored_path(name), &packed.stored_text(Some(&scene), sum))?;
-    }
+    let mut files = Replacement::new(arguments.flag("force"));
+    let bytes = add_parts(&mut files, progress, image, &parts)?;
     files.finish()?;
     let samples = image.window.sample_count();
     Ok(format!(
@@ -107,9 +86,43 @@ pub fn pack_parts(
          beside them",
         first.display(),
         last.display(),
-        counted(names.len() as u64, "part"),
+        counted(parts.len() as u64, "part"),
         8.0 * bytes as f64 / samples as f64,
     ))
+}
+
+/// Packs one part after the other, and then adds their stored headers; the bytes of all
+/// cubes.
+fn add_parts(
+    files: &mut Replacement,
+    progress: &Progress,
+    image: &Image,
+    parts: &[(PathBuf, Range<usize>)],
+) -> Result<usize, Failure> {
+    let (mut labels, mut bytes) = (Vec::new(), 0);
+    for (index, (name, rows)) in parts.iter().enumerate() {
+        let shown = name.display();
+        progress.show(&format!("{shown}: {} of {}", index + 1, parts.len()));
+        let mut packed = pack_rows(image, rows.clone())?;
+        files.add(name, |writer| writer.write_all(&packed.cube))?;
+        bytes += packed.cube.len();
+        if index == 0 {
+            say_dropped(image, &packed, false);
+        }
+        let sum = sum_of(&packed.cube);
+        // The cube is on the disk; memory need not hold it too.
+        packed.cube = Vec::new();
+        labels.push((name, packed, sum));
+    }
+    let sums: String = labels.iter().map(|(_, _, sum)| sum.as_str()).collect();
+    let scene = Scene {
+        identity: sum_of(sums.as_bytes()),
+        rows: image.window.rows.clone(),
+    };
+    for (name, packed, sum) in labels {
+        files.add_label(&stored_path(name), &packed.stored_text(Some(&scene), &sum))?;
+    }
+    Ok(bytes)
 }
 
 #[cfg(test)]

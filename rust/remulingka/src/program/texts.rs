@@ -185,6 +185,34 @@ fn escaped(text: &str) -> String {
     lines.collect::<Vec<String>>().join("\n")
 }
 
+/// An entry of a list in the manual page.
+fn entry(name: &str, help: &str) -> String {
+    let help = escaped(help).replace('\n', " ");
+    format!(".TP\n.B {}\n{help}\n", escaped(name))
+}
+
+/// The section of a command in the manual page.
+fn section(command: &Command) -> String {
+    let (name, usage) = (command.name.to_uppercase(), escaped(&command.usage()));
+    let about = escaped(command.about).replace("\n\n", "\n.PP\n");
+    let mut text = format!(".SH {name}\n.B {usage}\n.PP\n{about}\n");
+    for group in command.groups {
+        text.push_str(&format!(".SS {}\n", escaped(group.heading)));
+        for setting in command.settings().filter(|_| group.settings) {
+            let name = format!("--{} {}", setting.name, setting.value);
+            text.push_str(&entry(&name, setting.help));
+        }
+        for option in group.options {
+            text.push_str(&entry(&option.shown(), option.help));
+        }
+    }
+    text.push_str(".SS Examples\n.nf\n");
+    for example in command.examples {
+        text.push_str(&format!("{}\n", escaped(example)));
+    }
+    text + ".fi\n"
+}
+
 /// `remulingka manual`
 pub fn manual(arguments: &Arguments) -> Result<(), Failure> {
     let [] = arguments.exactly()?;
@@ -194,60 +222,36 @@ pub fn manual(arguments: &Arguments) -> Result<(), Failure> {
         remulingka::VERSION
     );
     for command in &COMMANDS {
-        let usage = escaped(&command.usage());
-        text.push_str(&format!(".B {usage}\n.br\n"));
+        text.push_str(&format!(".B {}\n.br\n", escaped(&command.usage())));
     }
-    text.push_str(&format!(
-        ".SH DESCRIPTION\n{}\n.PP\nFor a file \\- is standard input or output.\n.SS Options of every command\n",
-        escaped(
-            "Packs ENVI images into cube files (CCSDS 123.0-B-1, sample-adaptive coder) and opens \
-             them again, every sample as it was. An image has at most {limits}."
-        )
-    ));
-    let entry = |name: &str, help: &str| {
-        let help = escaped(help).replace('\n', " ");
-        format!(".TP\n.B {}\n{help}\n", escaped(name))
-    };
+    let about = "Packs ENVI images into cube files (CCSDS 123.0-B-1, sample-adaptive coder) and \
+                 opens them again, every sample as it was. An image has at most {limits}.";
+    text.push_str(&format!(".SH DESCRIPTION\n{}\n.PP\n", escaped(about)));
+    text.push_str("For a file \\- is standard input or output.\n.SS Options of every command\n");
     for option in &COMMON {
         text.push_str(&entry(&option.shown(), option.help));
     }
-    for command in &COMMANDS {
-        let about = escaped(command.about).replace("\n\n", "\n.PP\n");
-        text.push_str(&format!(
-            ".SH {}\n.B {}\n.PP\n{about}\n",
-            command.name.to_uppercase(),
-            escaped(&command.usage())
-        ));
-        for group in command.groups {
-            text.push_str(&format!(".SS {}\n", escaped(group.heading)));
-            for setting in command.settings().filter(|_| group.settings) {
-                text.push_str(&entry(
-                    &format!("--{} {}", setting.name, setting.value),
-                    setting.help,
-                ));
-            }
-            for option in group.options {
-                text.push_str(&entry(&option.shown(), option.help));
-            }
-        }
-        text.push_str(".SS Examples\n.nf\n");
-        for example in command.examples {
-            text.push_str(&format!("{}\n", escaped(example)));
-        }
-        text.push_str(".fi\n");
-    }
+    text.extend(COMMANDS.iter().map(section));
     text.push_str(".SH EXIT STATUS\n");
     for (status, meaning) in STATUSES {
         text.push_str(&entry(&status.to_string(), meaning));
     }
     text.push_str(".SH FILES\n");
-    text.push_str(&entry(
-        "FILE.envi",
-        "the stored header of the cube FILE: the fields of the image's ENVI header and the cube's sum",
-    ));
-    text.push_str(&entry(
-        ".remulingka-*",
-        "files being written (.part) or replaced (.old); a run that was killed may leave some",
-    ));
+    for (name, meaning) in FILES {
+        text.push_str(&entry(name, meaning));
+    }
     print(&text)
 }
+
+/// The files that the program makes beside those it is asked for.
+const FILES: [(&str, &str); 2] = [
+    (
+        "FILE.envi",
+        "the stored header of the cube FILE: the fields of the image's ENVI header and the \
+         cube's sum",
+    ),
+    (
+        ".remulingka-*",
+        "files being written (.part) or replaced (.old); a run that was killed may leave some",
+    ),
+];

@@ -169,7 +169,10 @@ pub fn wavelengths(header: &Header) -> Option<Vec<f64>> {
         .iter()
         .map(|part| text_of(part)?.parse().ok())
         .collect();
-    let lengths = lengths.filter(|lengths| lengths.len() == header.bands)?;
+    let lengths = lengths.filter(|lengths| {
+        let is_length = |length: &f64| (0.0..1e9).contains(length);
+        lengths.len() == header.bands && lengths.iter().all(is_length)
+    })?;
     let units = header.fields.word("wavelength units").unwrap_or_default();
     match units.to_ascii_lowercase().as_str() {
         "micrometers" | "um" | "microns" => Some(lengths.iter().map(|w| 1000.0 * w).collect()),
