@@ -8,11 +8,14 @@
 //! After an error all is put back in the opposite order, old labels last; where even
 //! that fails, old labels stay away.
 
+use std::collections::hash_map::RandomState;
 use std::fs::{self, File, Metadata, OpenOptions};
+use std::hash::{BuildHasher, Hasher};
 use std::io::{self, BufWriter, ErrorKind, Write};
 use std::os::unix::fs::{fchown, MetadataExt, PermissionsExt};
 use std::path::{Path, PathBuf};
 use std::sync::atomic::{AtomicU64, Ordering};
+use std::sync::OnceLock;
 use std::time::{Duration, SystemTime, UNIX_EPOCH};
 
 use super::console::note;
@@ -29,12 +32,14 @@ const EXCHANGED: Duration = Duration::from_secs(60);
 const MOST_LINKS: usize = 40;
 
 /// A name in the same folder that no file has; the same folder means the same disk,
-/// where a renaming is one step.
+/// where a renaming is one step. A number of the process would not do: in containers
+/// that of a killed one comes again.
 fn temporary_beside(path: &Path, ending: &str) -> PathBuf {
+    static RUN: OnceLock<u64> = OnceLock::new();
     static COUNT: AtomicU64 = AtomicU64::new(0);
+    let run = RUN.get_or_init(|| RandomState::new().build_hasher().finish());
     let count = COUNT.fetch_add(1, Ordering::Relaxed);
-    let process = std::process::id();
-    path.with_file_name(format!("{PREFIX}{process}-{count}.{ending}"))
+    path.with_file_name(format!("{PREFIX}{run:016x}-{count}.{ending}"))
 }
 
 fn folder_of(path: &Path) -> &Path {
@@ -125,6 +130,8 @@ impl Drop for Temporary {
 pub struct Replacement {
     is_forced: bool,
     outputs: Vec<Output>,
+    /// The folders that were looked through for what killed runs left.
+    folders: Vec<PathBuf>,
 }
 
 /// Says whether a file may be written: nothing that exists is replaced unless that is
@@ -160,6 +167,7 @@ impl Replacement {
         Replacement {
             is_forced,
             outputs: Vec::new(),
+            folders: Vec::new(),
         }
     }
 
@@ -207,7 +215,11 @@ impl Replacement {
                 path.display()
             )));
         }
-        look_for_left(folder_of(&target));
+        let folder = folder_of(&target).to_path_buf();
+        if !self.folders.contains(&folder) {
+            look_for_left(&folder);
+            self.folders.push(folder);
+        }
         let new = temporary(&target, old.as_ref(), write);
         let new = new.map_err(|error| Failure::file(path, error))?;
         self.outputs.push(Output {
