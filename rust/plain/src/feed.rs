@@ -96,7 +96,8 @@ impl Hash {
     /// The largest prime below 2^23.
     pub const BASE: u64 = (1 << 23) - 15;
 
-    fn word(self, word: u32) -> Hash {
+    /// The hash with one word more.
+    pub fn word(self, word: u32) -> Hash {
         Hash((self.0 * Self::BASE + u64::from(word) + 1) % Self::MODULUS)
     }
 

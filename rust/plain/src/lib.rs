@@ -6,7 +6,7 @@
 //! into codewords, and `cube` joins them into the four public calls, which `boundary`
 //! has as C makes them. `case` reads and answers recorded calls, `make` and `shapes`
 //! invent new ones, and `feed` and `unfeed` turn calls into the input of the proved
-//! program and back.
+//! program and back; `parameters` has what another, which takes no input, must write.
 //!
 //! Nothing here is shared with the proved code. That is the point: two programs
 //! written apart from the same paper are compared by a run.
@@ -19,6 +19,7 @@ pub mod cube;
 pub mod feed;
 pub mod header;
 pub mod make;
+pub mod parameters;
 pub mod predictor;
 pub mod refusal;
 pub mod settings;

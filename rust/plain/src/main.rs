@@ -9,6 +9,7 @@ use plain::boundary::{Call, KINDS};
 use plain::case::{parse_case, split_cases, Case};
 use plain::feed::{answer_line, fits, reopening, shared_source, Changes, Feed};
 use plain::make::{random_case, Random};
+use plain::parameters::parameter_lines;
 use plain::settings::SETTING_SLOTS;
 use plain::shapes::{boundary_shapes, header_shapes};
 use plain::unfeed::calls_of;
@@ -19,6 +20,8 @@ usage: plain answer CASE...            answers the calls of case files or direct
        plain make SEED COUNT [DIR]     makes random cases, in a directory or on the output
        plain unfeed INPUT LINE         prints the call of a line of a feed's output
        plain shared                    prints what the proved program shares, as its source
+       plain parameters OUTPUT         writes the code parameters around which k changes,
+                                       which the proved program of that name must write
        plain feed INPUT OUTPUT WORD...
                                        writes calls as input of the proved program, and the
                                        output that it must write; the words in their order:
@@ -47,6 +50,7 @@ fn main() -> ExitCode {
             print(&shared_source());
             Ok(true)
         }
+        ["parameters", output] => parameters(output),
         ["feed", input, output, words @ ..] => feed(input, output, words),
         _ => Err(USAGE.to_string()),
     };
@@ -299,6 +303,11 @@ fn feed(input: &str, output: &str, words: &[&str]) -> Result<bool, String> {
         fs::write(path, contents).map_err(|error| format!("{path}: {error}"))?;
     }
     print(&format!("{summary}\n"));
+    Ok(true)
+}
+
+fn parameters(output: &str) -> Result<bool, String> {
+    fs::write(output, parameter_lines()).map_err(|error| format!("{output}: {error}"))?;
     Ok(true)
 }
 
