@@ -50,8 +50,8 @@ extern "C" {
 #define REMULINGKA_VERSION "0.2.0"
 
 /* The house limits on an image. */
-#define REMULINGKA_MOST_SAMPLES 1048576
-#define REMULINGKA_MOST_BANDS 512
+#define REMULINGKA_MOST_SAMPLES 268435456
+#define REMULINGKA_MOST_BANDS 4096
 
 /* The slots of the settings, with the values that are legal. */
 enum remulingka_slot {

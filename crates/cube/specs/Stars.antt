@@ -155,11 +155,11 @@ pub record Stars : Type 0 where
       ≡ refused (BadCodeword 1)
   codeword-value : refusals.value (BadCodeword 1) ≡ 1
   numbers : map refusals.number table ≡ 1 ∷ 2 ∷ 3 ∷ 4 ∷ 5 ∷ 6 ∷ 7 ∷ 8 ∷ 9 ∷ 10 ∷ 11 ∷ 12 ∷ 13 ∷ 14 ∷ 15 ∷ 16 ∷ 17 ∷ 18 ∷ []
-  -- γ* = 9 and 10, Nz = 512 and 513, M = Nz and Nz + 1, and M = 0, which is not Nz
+  -- γ* = 9 and 10, Nz = 4,096 and 4,097, M = Nz and Nz + 1, and M = 0, which is not Nz
   rescaling-nine : asked (rowOfBands 1 1 8 1 true 0 (negsuc 0) 9 0) ≡ packing.Refused WrongCount
   rescaling-ten : asked (rowOfBands 1 1 8 1 true 0 (negsuc 0) 10 0) ≡ packing.Refused IllegalSetting
-  bands-most : asked (rowOfBands 1 512 8 1 true 0 (negsuc 0) 4 0) ≡ packing.Refused WrongCount
-  bands-more : asked (rowOfBands 1 513 8 1 true 0 (negsuc 0) 4 0) ≡ packing.Refused HouseLimit
+  bands-most : asked (rowOfBands 1 4096 8 1 true 0 (negsuc 0) 4 0) ≡ packing.Refused WrongCount
+  bands-more : asked (rowOfBands 1 4097 8 1 true 0 (negsuc 0) 4 0) ≡ packing.Refused HouseLimit
   depth-most : asked (rowOfBands 1 3 8 1 false 3 (negsuc 0) 4 0) ≡ packing.Refused WrongCount
   depth-more : asked (rowOfBands 1 3 8 1 false 4 (negsuc 0) 4 0) ≡ packing.Refused IllegalSetting
   depth-none : asked (rowOfBands 1 3 8 1 false 0 (negsuc 0) 4 0) ≡ packing.Refused IllegalSetting

@@ -4,11 +4,11 @@ use Prim.Native.Nat.{ℕ, _+_, _*_, _^_}
 
 -- the most samples of an image
 abbrev pub mostSamples : ℕ
-mostSamples = 1048576
+mostSamples = 268435456
 
 -- the most bands of an image
 abbrev pub mostBands : ℕ
-mostBands = 512
+mostBands = 4096
 
 -- ---- tables of so many bands
 
@@ -34,8 +34,8 @@ mostBodyBits = 48 * mostSamples
 abbrev pub mostFileBytes : ℕ
 mostFileBytes = 32 + 50 * mostBands + 6 * mostSamples
 
--- ---- ceilings: no limits, but what words of 64 bits hold with room to spare. They stand for images of 2^28 samples of 48 bits
--- behind tables of 4,096 bands too, so a higher limit moves none of them.
+-- ---- ceilings: no limits, but what words of 64 bits hold with room to spare. They hold 2^28 samples of 48 bits behind the tables
+-- of 4,096 bands, and did so before the limits were these: the proofs of the code rest on the ceilings alone.
 
 -- the bits of a table or of a header
 abbrev pub tableCeiling : ℕ

@@ -8,13 +8,13 @@ use plain::Settings;
 
 use crate::images::random_image;
 
-/// One call in this many has an image of exactly the house's largest size.
-const LARGEST_ONE_IN: usize = 20_000;
+/// One call in this many has a large image, of 2^20 samples.
+const LARGE_ONE_IN: usize = 20_000;
 
 /// One random call.
 pub fn random_call(random: &mut Random) -> Call {
-    if random.one_in(LARGEST_ONE_IN) {
-        return largest_call(random);
+    if random.one_in(LARGE_ONE_IN) {
+        return large_call(random);
     }
     let mut call = match random.below(8) {
         0..=3 => from_case(make::random_case(random).call, random),
@@ -133,7 +133,7 @@ fn random_sizes(random: &mut Random) -> [i32; 3] {
         ];
     }
     match random.below(12) {
-        0 => [random.between(1, 5), 1, random.edged(1, 512)],
+        0 => [random.between(1, 5), 1, make::random_bands(random)],
         1 => [
             random.between(2, 3),
             random.between(2, 4),
@@ -191,8 +191,9 @@ fn reader_call(random: &mut Random) -> Call {
     let shape = inputs.settings.shape();
     let mut file = make::file_of(&inputs);
     let length = file.len();
-    match random.below(10) {
+    match random.below(11) {
         0 | 1 => {}
+        10 => set_sizes(random, &mut file),
         2 => scramble_body(random, &inputs, &mut file),
         3 => file.truncate(random.below(length)),
         4 => file.extend((0..1 + random.below(9)).map(|_| 0)),
@@ -249,6 +250,14 @@ fn set_fill_bit(random: &mut Random, file: &mut [u8]) {
     file[index] |= 1 << random.below(8);
 }
 
+/// Sizes about the limits of the house, as the header has them: modulo 2^16.
+fn set_sizes(random: &mut Random, file: &mut [u8]) {
+    let sizes = random.pick(&make::LIMIT_SIZES);
+    for (field, size) in file[1..7].chunks_exact_mut(2).zip(sizes) {
+        field.copy_from_slice(&(size as u16).to_be_bytes());
+    }
+}
+
 fn flip_bits(random: &mut Random, file: &mut [u8]) {
     for _ in 0..1 + random.below(4) {
         let index = random.below(file.len());
@@ -256,12 +265,14 @@ fn flip_bits(random: &mut Random, file: &mut [u8]) {
     }
 }
 
-/// A call on an image of exactly as many samples as the house takes.
-fn largest_call(random: &mut Random) -> Call {
+/// A call on an image of 2^20 samples. The most that the house takes, 2^28, are for the
+/// test that is run by hand.
+fn large_call(random: &mut Random) -> Call {
     let sizes = random.pick(&[
         [1024, 1024, 1],
         [64, 64, 256],
-        [32, 64, 512],
+        [32, 32, 1024],
+        [16, 16, 4096],
         [65_536, 16, 1],
         [16, 65_536, 1],
         [1, 65_536, 16],

@@ -1,4 +1,4 @@
-//! The 400 calls that yet another program answered, made of the archive.
+//! The calls that yet another program answered, made of the archive.
 
 use std::fs;
 use std::path::Path;
@@ -8,9 +8,11 @@ use differential::inputs::from_case;
 use plain::case::parse_case;
 use plain::make::Random;
 
-#[test]
-fn the_archive_answers_the_recorded_calls_as_recorded() {
-    let folder = Path::new(env!("CARGO_MANIFEST_DIR")).join("../plain/vectors");
+/// Makes the recorded calls of a folder, and gives their count.
+fn made_of(folder: &str) -> usize {
+    let folder = Path::new(env!("CARGO_MANIFEST_DIR"))
+        .join("../plain")
+        .join(folder);
     let mut random = Random::new(1);
     let mut count = 0;
     for entry in fs::read_dir(folder).unwrap() {
@@ -25,5 +27,15 @@ fn the_archive_answers_the_recorded_calls_as_recorded() {
         assert!(differences.is_empty(), "{}: {differences}", path.display());
         count += 1;
     }
-    assert!(count >= 400, "only {count} calls were found");
+    count
+}
+
+#[test]
+fn the_archive_answers_the_recorded_calls_as_recorded() {
+    assert_eq!(made_of("vectors"), 400);
+}
+
+#[test]
+fn the_archive_answers_the_recorded_calls_on_larger_cubes_as_recorded() {
+    assert_eq!(made_of("vectors-203"), 150);
 }

@@ -8,7 +8,7 @@ use crate::case::{Call, Case, WriterInputs};
 use crate::coder::{Code, Coder};
 use crate::cube::{visit_mapped, write_file};
 use crate::header::write_header;
-use crate::settings::{Settings, K_SLOT, SCRATCH_STRIDE, TABLE_STRIDE};
+use crate::settings::{Settings, K_SLOT, MOST_BANDS, SCRATCH_STRIDE, TABLE_STRIDE};
 
 /// A small generator (splitmix64): the same seed gives the same cases everywhere.
 pub struct Random {
@@ -84,10 +84,33 @@ pub fn random_case(random: &mut Random) -> Case {
     }
 }
 
+/// Many bands, and now and then as many as the house takes.
+pub fn random_bands(random: &mut Random) -> i32 {
+    if random.one_in(8) {
+        random.pick(&[1_023, 1_024, 1_025, MOST_BANDS - 1, MOST_BANDS])
+    } else {
+        random.edged(1, 512)
+    }
+}
+
+/// Sizes about the limits of the house. No sizes make 1 to 3 samples more than the
+/// most: those numbers have prime factors beyond any size.
+pub const LIMIT_SIZES: [[i32; 3]; 9] = [
+    [16_384, 16_384, 1],
+    [32_260, 8_321, 1],
+    [65_536, 4_096, 1],
+    [65_536, 4_097, 1],
+    [1, 65_536, 4_096],
+    [2, 65_536, 2_049],
+    [2, 2, 4_096],
+    [2, 2, 4_097],
+    [65_536, 65_536, 65_536],
+];
+
 /// Sizes of a small image; now and then a long, a wide or a deep one.
 fn random_sizes(random: &mut Random) -> [i32; 3] {
     match random.below(16) {
-        0 => [random.between(1, 2), 1, random.edged(1, 512)],
+        0 => [random.between(1, 2), 1, random_bands(random)],
         1 => [random.between(100, 3000), 1, 1],
         2 => [1, random.between(100, 3000), 1],
         3 => [
@@ -277,22 +300,17 @@ fn break_one(random: &mut Random, values: &mut [i32], near: &[i32]) {
 
 /// Sizes about the limits of the standard and of the house.
 fn break_sizes(random: &mut Random, settings: &mut Settings) {
-    let [x_size, y_size, z_size] = random.pick(&[
-        [1024, 1024, 1],
-        [1024, 1025, 1],
-        [65_536, 16, 1],
-        [65_536, 17, 1],
+    let illegal = [
         [65_537, 1, 1],
-        [1, 65_536, 16],
-        [4, 512, 512],
-        [2, 2, 512],
-        [2, 2, 513],
-        [65_536, 65_536, 65_536],
         [i32::MAX, i32::MAX, i32::MAX],
         [0, 5, 5],
         [5, 0, 5],
         [5, 5, 0],
-    ]);
+    ];
+    let [x_size, y_size, z_size] = match random.one_in(3) {
+        true => random.pick(&illegal),
+        false => random.pick(&LIMIT_SIZES),
+    };
     settings.x_size = x_size;
     settings.y_size = y_size;
     settings.z_size = z_size;
@@ -304,7 +322,7 @@ fn break_setting(random: &mut Random, settings: &mut Settings) {
     let index = random.below(slots.len());
     let near = [-1, 1];
     let ends = [
-        -7, -1, 0, 1, 2, 3, 7, 9, 10, 16, 17, 20, 23, 31, 33, 65, 256, 513, 4096, 65_537,
+        -7, -1, 0, 1, 2, 3, 7, 9, 10, 16, 17, 20, 23, 31, 33, 65, 256, 4_096, 4_097, 65_537,
     ];
     slots[index] = match random.below(4) {
         0 => slots[index].wrapping_add(random.pick(&near)),

@@ -13,9 +13,9 @@ pub const K_SLOT: usize = 18;
 /// Scratch slots a band that the caller must lend.
 pub const SCRATCH_STRIDE: usize = 32;
 /// House limit on Nx·Ny·Nz.
-pub const MOST_SAMPLES: u64 = 1_048_576;
+pub const MOST_SAMPLES: u64 = 1 << 28;
 /// House limit on Nz.
-pub const MOST_BANDS: i32 = 512;
+pub const MOST_BANDS: i32 = 4_096;
 
 /// The names of the slots in recorded calls, in slot order.
 pub const SLOT_NAMES: [&str; SETTING_SLOTS] = [

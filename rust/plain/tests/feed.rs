@@ -346,7 +346,7 @@ fn header_shapes_have_every_table_and_end() {
         }
     }
     assert!(looked.iter().any(|settings| settings.x_size == 65_536));
-    assert!(looked.iter().any(|settings| settings.z_size == 512));
+    assert!(looked.iter().any(|settings| settings.z_size == 4_096));
     let is_empty_table = |settings: &Settings| {
         settings.custom_weights == 1 && settings.reduced_mode == 1 && settings.prediction_bands == 0
     };

@@ -73,13 +73,13 @@ type Spoil = fn(&mut WriterInputs);
 const WRITERS_ORDER: [(u8, u64, Spoil); 10] = [
     (1, 0, |call| call.settings.unary_limit = 33),
     (4, 0, |call| {
-        call.settings.z_size = 513;
-        call.samples = vec![300; 1026];
-        call.scratch = 32 * 513;
-        call.tables = vec![0; 19 * 513];
+        call.settings.z_size = 4_097;
+        call.samples = vec![300; 2 * 4_097];
+        call.scratch = 32 * 4_097;
+        call.tables = vec![0; 19 * 4_097];
     }),
     // Beside it everything is too short as well.
-    (4, 0, |call| call.settings.z_size = 513),
+    (4, 0, |call| call.settings.z_size = 4_097),
     (3, 0, |call| call.samples.resize(9, 130)),
     (3, 0, |call| call.samples.truncate(5)),
     (5, 0, |call| call.scratch = 95),
@@ -299,7 +299,7 @@ fn readers_refusals_and_areas() {
     }
     assert_eq!(ample(&file[..header]), (9, 0, Holds::Zero));
     assert_eq!(ample(&with(10, 0x0C)), untouched(12));
-    assert_eq!(ample(&with(5, 0x03)), untouched(4));
+    assert_eq!(ample(&with(5, 0x10)), untouched(4));
     assert_eq!(ample(&with(11, 0x01)), untouched(8));
     assert_eq!(ample(&with(17, 0x01)), untouched(8));
     assert_eq!(ample(&with(header - 1, 0x70)), untouched(8));
@@ -330,7 +330,7 @@ fn order_within_the_image_part() {
     };
     let zero_bit = (11, 0x01);
     let coder_bit = (10, 0x0C);
-    let many_bands = (5, 0x03);
+    let many_bands = (5, 0x10);
     let depth_of_one = (7, 0x03);
     let (register, table_flag) = ((13, 0x81), (16, 0x20));
     assert_eq!(answer(&[zero_bit, coder_bit, many_bands], 11), Err(7));

@@ -100,9 +100,9 @@ fn both_orders_have_the_same_length() {
 }
 
 #[test]
-fn the_largest_images_pass() {
+fn long_wide_and_deep_images_pass() {
     let mut random = Random::new(33);
-    for (x_size, y_size, z_size) in [(65_536, 16, 1), (16, 65_536, 1), (64, 32, 512)] {
+    for (x_size, y_size, z_size) in [(65_536, 16, 1), (16, 65_536, 1), (16, 16, 4_096)] {
         let mut settings = common::worked_settings(x_size);
         settings.y_size = y_size;
         settings.z_size = z_size;

@@ -9,6 +9,11 @@ fn vectors() -> PathBuf {
     PathBuf::from(env!("CARGO_MANIFEST_DIR")).join("vectors")
 }
 
+/// Calls recorded once the limits were 4,096 bands and 2^28 samples.
+fn larger_vectors() -> PathBuf {
+    PathBuf::from(env!("CARGO_MANIFEST_DIR")).join("vectors-203")
+}
+
 fn plain(arguments: &[&str]) -> Output {
     Command::new(env!("CARGO_BIN_EXE_plain"))
         .args(arguments)
@@ -24,20 +29,31 @@ fn directory(name: &str) -> PathBuf {
     path
 }
 
-#[test]
-fn all_400_vectors_agree() {
+/// Answers the cases of a directory, and gives their count.
+fn agreeing(vectors: PathBuf) -> usize {
     let mut agree = 0;
-    for entry in std::fs::read_dir(vectors()).expect("the vectors") {
+    for entry in std::fs::read_dir(vectors).expect("the vectors") {
         let path = entry.expect("an entry").path();
         let text = std::fs::read_to_string(&path).expect("a case");
         let (case, recorded) = parse_case(&text).expect("a case");
         assert!(!recorded.is_empty());
         assert_eq!(case.answer_text(), recorded, "{}", path.display());
-        // The format is written as it is read.
+        // The format is written as it is read, but for the requests that have landed.
+        let text = text.replacen("\nstage 203\n", "\n", 1);
         assert_eq!(case.inputs_text() + &recorded, text);
         agree += 1;
     }
-    assert_eq!(agree, 400);
+    agree
+}
+
+#[test]
+fn all_400_vectors_agree() {
+    assert_eq!(agreeing(vectors()), 400);
+}
+
+#[test]
+fn all_150_vectors_of_larger_cubes_agree() {
+    assert_eq!(agreeing(larger_vectors()), 150);
 }
 
 #[test]
@@ -45,6 +61,8 @@ fn the_command_line_checks_them() {
     let output = plain(&["check", vectors().to_str().expect("a path")]);
     assert!(output.status.success());
     assert_eq!(output.stdout, b"400 agree, 0 differ\n");
+    let output = plain(&["check", larger_vectors().to_str().expect("a path")]);
+    assert_eq!(output.stdout, b"150 agree, 0 differ\n");
 }
 
 #[test]

@@ -200,8 +200,8 @@ fn limits_of_single_settings() {
     assert!(answer(&|s| s.rescaling_counter_size = 9).is_ok());
     let refused = answer(&|s| s.rescaling_counter_size = 10);
     assert_eq!(refused, Err(Refusal::IllegalSetting));
-    assert!(answer(&|s| s.z_size = 512).is_ok());
-    assert_eq!(answer(&|s| s.z_size = 513), Err(Refusal::HouseLimit));
+    assert!(answer(&|s| s.z_size = 4_096).is_ok());
+    assert_eq!(answer(&|s| s.z_size = 4_097), Err(Refusal::HouseLimit));
     let depth = |m: i32| {
         answer(&|s| {
             s.z_size = 3;

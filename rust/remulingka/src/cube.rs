@@ -58,7 +58,8 @@ pub fn length(
 
 /// Opens a file.
 pub fn open(file: &[u8]) -> Result<Cube, Refusal> {
-    // The header says how much memory to lend; its limits keep that small.
+    // The header says how much memory to lend: 4 bytes for each of at most MOST_SAMPLES
+    // samples, which cost nothing until they are written.
     let mut settings = look(file)?;
     let mut tables = Tables::new(settings.bands as usize);
     let mut samples = vec![0; settings.sample_count() as usize];

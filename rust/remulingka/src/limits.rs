@@ -8,9 +8,9 @@ pub const TABLE_SLOTS: usize = 19;
 /// Scratch slots a band.
 pub const SCRATCH_SLOTS: usize = 32;
 /// House limit on the samples of an image.
-pub const MOST_SAMPLES: usize = 1_048_576;
+pub const MOST_SAMPLES: usize = 1 << 28;
 /// House limit on the bands of an image.
-pub const MOST_BANDS: usize = 512;
+pub const MOST_BANDS: usize = 4_096;
 /// No header of a file is longer: 19 bytes of fields, and for each band 18
 /// components of at most 22 bits and half a byte.
 pub const LONGEST_HEADER: usize = 32 + 50 * MOST_BANDS;

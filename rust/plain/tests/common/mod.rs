@@ -2,7 +2,7 @@
 #![allow(dead_code)]
 
 use plain::case::WriterInputs;
-use plain::settings::{SCRATCH_STRIDE, TABLE_STRIDE};
+use plain::settings::{MOST_BANDS, SCRATCH_STRIDE, TABLE_STRIDE};
 use plain::{Refusal, Settings};
 
 /// The settings of the paper's worked files, for `x_size` samples.
@@ -37,7 +37,7 @@ pub fn worked_settings(x_size: i32) -> Settings {
 
 /// Inputs with areas of exactly the right length and all table slots zero.
 pub fn inputs(settings: Settings, samples: &[i32]) -> WriterInputs {
-    let bands = settings.z_size.clamp(0, 1000) as usize;
+    let bands = settings.z_size.clamp(0, MOST_BANDS) as usize;
     WriterInputs {
         settings,
         scratch: SCRATCH_STRIDE * bands,
@@ -69,9 +69,10 @@ pub fn opened(file: &[u8]) -> Result<Opened, Refusal> {
 
 /// Opens with an image area of `most` slots.
 pub fn opened_within(file: &[u8], most: usize) -> Result<Opened, Refusal> {
-    let mut tables = vec![77; TABLE_STRIDE * 512];
+    let mut tables = vec![77; TABLE_STRIDE * MOST_BANDS as usize];
     let mut image = vec![77; most];
-    let settings = plain::open(file, SCRATCH_STRIDE * 512, &mut tables, &mut image)?;
+    let scratch = SCRATCH_STRIDE * MOST_BANDS as usize;
+    let settings = plain::open(file, scratch, &mut tables, &mut image)?;
     let shape = settings.shape();
     tables.truncate(TABLE_STRIDE * shape.bands);
     image.truncate(shape.sample_count());

@@ -6,6 +6,7 @@ use std::ops::Range;
 use std::os::unix::ffi::{OsStrExt, OsStringExt};
 use std::path::{Path, PathBuf};
 
+use remulingka::limits::grouped;
 use remulingka::Settings;
 
 use super::arguments::Arguments;
@@ -125,18 +126,19 @@ fn pack_one(arguments: &Arguments, progress: &Progress, job: &Job) -> Result<Str
         image: path,
         output,
     } = job;
-    progress.show(&format!("{}: reading", path.display()));
     let image = Image::find(arguments, path)?;
     if arguments.path("split").is_some() {
         return pack_parts(arguments, progress, &image, job);
     }
     if is_dash(output) {
-        return pack_to_output(arguments, &image);
+        return pack_to_output(arguments, progress, &image);
     }
     let is_bare = arguments.flag("bare");
     guard_output(arguments, &image, path, output)?;
     let mut files = Replacement::new(arguments.flag("force"));
-    let packed = pack_rows(&image, image.window.rows.clone())?;
+    let packed = pack_rows(&image, image.window.rows.clone(), |stage| {
+        progress.show(&format!("{}: {stage}", path.display()));
+    })?;
     progress.show(&format!("{}: writing", output.display()));
     files.add(output, |writer| writer.write_all(&packed.cube))?;
     let stored = stored_path(output);
@@ -188,13 +190,20 @@ pub struct Packed {
     left_out: Vec<String>,
 }
 
-/// Packs some rows of an image's window.
-pub fn pack_rows(image: &Image, rows: Range<usize>) -> Result<Packed, Failure> {
+/// Packs some rows of an image's window, and shows each stage before it begins.
+pub fn pack_rows(
+    image: &Image,
+    rows: Range<usize>,
+    show: impl Fn(&str),
+) -> Result<Packed, Failure> {
     let window = Window {
         rows: rows.clone(),
         ..image.window.clone()
     };
+    show("reading");
     let input = image.input(rows)?;
+    let count = grouped(input.settings.sample_count());
+    show(&format!("packing {count} samples"));
     let (header, left_out) = image.header.cut(&window);
     let whole = image.header.sizes();
     Ok(Packed {
@@ -230,11 +239,17 @@ pub fn say_dropped(image: &Image, packed: &Packed, is_bare: bool) {
 }
 
 /// Packs to standard output, where no header can be stored.
-fn pack_to_output(arguments: &Arguments, image: &Image) -> Result<String, Failure> {
+fn pack_to_output(
+    arguments: &Arguments,
+    progress: &Progress,
+    image: &Image,
+) -> Result<String, Failure> {
     if std::io::stdout().is_terminal() {
         return Err(arguments.usage("a cube is not for the terminal; send it to a file or a pipe"));
     }
-    let packed = pack_rows(image, image.window.rows.clone())?;
+    let packed = pack_rows(image, image.window.rows.clone(), |stage| {
+        progress.show(stage)
+    })?;
     print_bytes(&packed.cube)?;
     say_dropped(image, &packed, true);
     let name = Path::new("standard output");

@@ -102,8 +102,10 @@ fn add_parts(
     let (mut labels, mut bytes) = (Vec::new(), 0);
     for (index, (name, rows)) in parts.iter().enumerate() {
         let shown = name.display();
-        progress.show(&format!("{shown}: {} of {}", index + 1, parts.len()));
-        let mut packed = pack_rows(image, rows.clone())?;
+        let (number, count) = (index + 1, parts.len());
+        let mut packed = pack_rows(image, rows.clone(), |stage| {
+            progress.show(&format!("{shown}: {number} of {count}, {stage}"));
+        })?;
         files.add(name, |writer| writer.write_all(&packed.cube))?;
         bytes += packed.cube.len();
         if index == 0 {

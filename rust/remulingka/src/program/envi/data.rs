@@ -101,16 +101,17 @@ fn data_index(header: &Header, [band, row, column]: [usize; 3]) -> u64 {
 
 /// The band and the row of each run of a window, in the order of the data. A run is
 /// the window's part of a row of one band or, with bands interleaved by pixel, of all.
-fn runs(interleave: Interleave, window: &Window) -> Vec<[usize; 2]> {
+/// They are not listed: where columns are few there are as many as samples.
+fn runs(interleave: Interleave, window: &Window) -> Box<dyn Iterator<Item = [usize; 2]>> {
     let (bands, rows) = (window.bands.clone(), window.rows.clone());
     match interleave {
-        Interleave::Band => bands
-            .flat_map(|band| rows.clone().map(move |row| [band, row]))
-            .collect(),
-        Interleave::Line => rows
-            .flat_map(|row| bands.clone().map(move |band| [band, row]))
-            .collect(),
-        Interleave::Pixel => rows.map(|row| [0, row]).collect(),
+        Interleave::Band => {
+            Box::new(bands.flat_map(move |band| rows.clone().map(move |row| [band, row])))
+        }
+        Interleave::Line => {
+            Box::new(rows.flat_map(move |row| bands.clone().map(move |band| [band, row])))
+        }
+        Interleave::Pixel => Box::new(rows.map(|row| [0, row])),
     }
 }
 
