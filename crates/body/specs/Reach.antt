@@ -100,15 +100,15 @@ module _ (S : Settings) (wide : 0 < S .image .nx) (tables : List ℤ) (I J : Ima
   }
 
   -- the image with other counts of rows and bands: its order has the places of the first of them
-  abbrev sized : ℕ → ℕ → settings.Image
-  sized ny nz = record {
+  abbrev sized : Bool → ℕ → ℕ → settings.Image
+  sized sequential ny nz = record {
     user = S .image .user;
     nx = S .image .nx;
     ny = ny;
     nz = nz;
     signed = S .image .signed;
     depth = S .image .depth;
-    sequential = S .image .sequential;
+    sequential = sequential;
     interleave = S .image .interleave;
     word = S .image .word;
   }
@@ -120,9 +120,9 @@ module _ (S : Settings) (wide : 0 < S .image .nx) (tables : List ℤ) (I J : Ima
   bodies-of-bands q z h same =
       let bands : ℕ → List Place = λ b. join (λ y. rowOf (S .image .nx) y b 1) 0 (S .image .ny) in
       begin (join bands 0 (suc z)) (join bands (suc z) (S .image .nz - suc z)) _ (rw q (cut bands (S .image .nz) (suc z) h))
-      (all-map {F = Inside (sized (S .image .ny) (suc z))} _
+      (all-map {F = Inside (sized true (S .image .ny) (suc z))} (join bands 0 (suc z))
       (λ p i. code-of-bands (S .image .nx * S .image .ny) z same p (let b = i .band in omega arith) (i .time))
-      (rw q at (inside-order (sized (S .image .ny) (suc z)))))
+      (inside-order (sized true (S .image .ny) (suc z))))
 
   -- interleaved: the bodies are the same up to the last codeword of row y
   pub bodies-of-rows : S .image .sequential ≡ false → (y : ℕ) → y < S .image .ny → SameRows (S .image .nx) (S .image .nz) y I J
@@ -131,5 +131,5 @@ module _ (S : Settings) (wide : 0 < S .image .nx) (tables : List ℤ) (I J : Ima
   bodies-of-rows q y h same =
       let frames : ℕ → List Place = λ r. frameOf (S .image .nx) (S .image .nz) (S .image .interleave) r in
       begin (join frames 0 (suc y)) (join frames (suc y) (S .image .ny - suc y)) _ (rw q (cut frames (S .image .ny) (suc y) h))
-      (all-map {F = Inside (sized (suc y) (S .image .nz))} _ (λ p i. code-of-rows y same p (i .band) (i .time))
-      (rw q at (inside-order (sized (suc y) (S .image .nz)))))
+      (all-map {F = Inside (sized false (suc y) (S .image .nz))} (join frames 0 (suc y)) (λ p i. code-of-rows y same p (i .band) (i .time))
+      (inside-order (sized false (suc y) (S .image .nz))))
