@@ -9,7 +9,7 @@ use lib.ListN.{length, take, length-append}
 use lib.Seq.{take-at}
 use Rattle.bitstream.specs.Stream.{unpack, zeros, filling}
 use Rattle.settings.specs.declared.Settings.{Settings}
-use Rattle.settings.specs.Tables.{entry, accumulatorSlot}
+use Rattle.settings.specs.Tables.{entry, parameterSlot}
 use Rattle.settings.specs.LegalLaws.{LegalSettings, legal-settings}
 use Rattle.settings.specs.TableLaws.{LegalBand, legal-tables}
 use Rattle.predictor.specs.Differences.{Image, imageOf}
@@ -36,7 +36,7 @@ legal-begins : (S : Settings) (tables : List ℤ) (z : ℕ) → LegalSettings S 
 unfolding initialParameter
 legal-begins S tables z l b = record { rescaled = l .coder .rescaling-above; parameter-fits = go (S .coder .tabled) refl }
   where
-    go : (c : Bool) → S .coder .tabled ≡ c → cond c (natAbs (entry tables z accumulatorSlot)) (S .coder .constant) + 2 ≤ S .image .depth
+    go : (c : Bool) → S .coder .tabled ≡ c → cond c (natAbs (entry tables z parameterSlot)) (S .coder .constant) + 2 ≤ S .image .depth
     go true e = let m = b .accumulator e .most in let d = l .image .depth-least in omega arith
     go false e = l .coder .constant-most e
 
