@@ -5,3 +5,4 @@ pub mod OrderLaws
 pub mod Body
 pub mod Good
 pub mod BodyLaws
+pub mod Reach

@@ -20,3 +20,4 @@ pub mod PackLaws
 pub mod IgnoreLaws
 pub mod OpenLaws
 pub mod Demands
+pub mod Reach
