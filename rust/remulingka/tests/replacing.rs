@@ -317,7 +317,7 @@ fn a_stopped_program_takes_its_temporary_files_with_it() {
                 .map(|entry| entry.unwrap().file_name().into_string().unwrap())
                 .collect()
         };
-        for _ in 0..2000 {
+        for _ in 0..20_000 {
             if names().iter().any(|name| is_part(name)) {
                 break;
             }
