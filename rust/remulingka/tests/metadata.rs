@@ -37,11 +37,13 @@ fn header_and_data_come_back_byte_for_byte() {
                     offset: 0,
                 };
                 let header = write_image(&folder, &layout);
-                succeeds(&folder, &["pack", "image.hdr", "f.cube", "-f"]);
-                let line = succeeds(&folder, &["open", "f.cube", "again.hdr", "-f"]);
-                assert!(line.contains("fields as in f.cube.envi"), "{line}");
-                assert_eq!(bytes(&folder, "again.img"), bytes(&folder, "image.img"));
-                assert_eq!(bytes(&folder, "again.hdr"), header, "{layout:?}");
+                let name = format!("{data_type}{interleave}{byte_order}");
+                let named = |ending: &str| format!("{name}.{ending}");
+                succeeds(&folder, &["pack", "image.hdr", &named("cube")]);
+                let line = succeeds(&folder, &["open", &named("cube"), &named("hdr")]);
+                assert_eq!(bytes(&folder, &named("img")), bytes(&folder, "image.img"));
+                assert_eq!(bytes(&folder, &named("hdr")), header, "{layout:?}");
+                assert!(line.contains("fields as in"), "{line}");
             }
         }
     }
@@ -67,7 +69,7 @@ fn the_offset_is_not_kept_for_the_data_has_none() {
 fn a_part_has_its_own_wavelengths_and_its_own_place() {
     let folder = folder("part");
     write_image(&folder, &USUAL);
-    let window = ["--rows", "1:3", "--columns", "2:", "--take-bands", "1:"];
+    let window = ["--rows", "1:3", "--columns", "2:5", "--take-bands", "1:3"];
     // Band 1 of the default bands is not in the part, so they are left out by name.
     let output = remulingka(
         &folder,
@@ -108,10 +110,10 @@ fn a_line_says_what_is_dropped() {
     let folder = folder("dropped");
     write_image(&folder, &USUAL);
     for words in [
-        ["pack", "image.hdr", "f.cube", "--bare"],
-        ["pack", "image.hdr", "-", "--bare"],
+        &["pack", "image.hdr", "-"][..],
+        &["pack", "image.hdr", "f.cube", "--bare"],
     ] {
-        let output = remulingka(&folder, &words);
+        let output = remulingka(&folder, words);
         let errors = String::from_utf8_lossy(&output.stderr).into_owned();
         assert_eq!(output.status.code(), Some(0), "{errors}");
         for name in ["description", "wavelength", "map info", "band names"] {

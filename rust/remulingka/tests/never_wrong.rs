@@ -69,6 +69,7 @@ fn read_only_files_are_not_replaced_and_modes_are_kept() {
         fs::set_permissions(path, fs::Permissions::from_mode(mode)).unwrap();
     };
     mode(0o444);
+    fails(&folder, FILE, &["pack", "image.hdr", "f.cube"]);
     let message = fails(&folder, FILE, &["pack", "image.hdr", "f.cube", "--force"]);
     assert!(message.contains("f.cube: this is read-only"), "{message}");
     mode(0o640);
@@ -98,8 +99,8 @@ fn two_names_of_one_output_are_seen() {
     USUAL.write(&folder, "image", sample(false));
     succeeds(&folder, &["pack", "image.hdr", "f.cube"]);
     fs::create_dir(folder.join("sub")).unwrap();
-    for data in ["a.hdr", "./a.hdr", "sub/../a.hdr"] {
-        let words = ["open", "f.cube", "a.hdr", "--force", "--data", data];
+    for data in ["./a.hdr", "sub/../a.hdr", "a.hdr"] {
+        let words = ["open", "f.cube", "a.hdr", "--data", data];
         assert!(
             fails(&folder, USAGE, &words).contains("two outputs"),
             "{data}"
@@ -115,13 +116,13 @@ fn links_are_followed() {
     USUAL.write(&folder, "image", sample(false));
     fs::create_dir(folder.join("far")).unwrap();
     symlink("far/nowhere.cube", folder.join("link.cube")).unwrap();
-    succeeds(&folder, &["pack", "image.hdr", "link.cube", "--bare", "-q"]);
+    succeeds(&folder, &["pack", "image.hdr", "link.cube"]);
     assert!(fs::symlink_metadata(folder.join("link.cube"))
         .unwrap()
         .is_symlink());
     succeeds(&folder, &["check", "far/nowhere.cube"]);
     // Now the link leads to something, which is not replaced unasked.
-    fails(&folder, FILE, &["pack", "image.hdr", "link.cube", "--bare"]);
+    fails(&folder, FILE, &["pack", "image.hdr", "link.cube"]);
     succeeds(
         &folder,
         &[
@@ -182,16 +183,6 @@ fn no_output_passes_for_the_data_of_another_header() {
     USUAL.write(&folder, "image", sample(false));
     USUAL.write(&folder, "other", |_, _, _| 7);
     succeeds(&folder, &["pack", "image.hdr", "f.cube"]);
-    // Data of another header.
-    let words = [
-        "open",
-        "f.cube",
-        "new.hdr",
-        "--data",
-        "other.img",
-        "--force",
-    ];
-    assert!(fails(&folder, FILE, &words).contains("data of another header: other.hdr"));
     // New files beside a header that has data already.
     for output in ["other", "other.dat", "other.BIL"] {
         let message = fails(&folder, FILE, &["pack", "image.hdr", output]);
@@ -202,6 +193,16 @@ fn no_output_passes_for_the_data_of_another_header() {
         let words = ["open", "f.cube", "new.hdr", "--tables", output];
         fails(&folder, FILE, &words);
     }
+    // Data of another header.
+    let words = [
+        "open",
+        "f.cube",
+        "new.hdr",
+        "--data",
+        "other.img",
+        "--force",
+    ];
+    assert!(fails(&folder, FILE, &words).contains("data of another header: other.hdr"));
     // A header beside which other data lies, although its own goes elsewhere.
     let words = [
         "open",
@@ -299,16 +300,18 @@ fn spellings_that_others_read_are_read() {
         bytes(&folder, "f.cube")
     };
     let header = USUAL.header();
-    for changed in [
+    let spellings = [
         header.replace("samples = 5", "samples = 5 ; columns"),
         header.replace("wavelength = {", "wavelength =\n{"),
         header.replace("description = {", "description = {a {b} c"),
         header.replace('\n', "\r\n"),
         header.replace("data type", "DATA   Type"),
-    ] {
-        fs::write(folder.join("image.hdr"), &changed).unwrap();
-        succeeds(&folder, &["pack", "image.hdr", "f.cube", "--force"]);
-        assert_eq!(bytes(&folder, "f.cube"), expected, "{changed}");
+    ];
+    for (index, changed) in spellings.iter().enumerate() {
+        fs::write(folder.join("image.hdr"), changed).unwrap();
+        let cube = format!("f{index}.cube");
+        succeeds(&folder, &["pack", "image.hdr", &cube]);
+        assert_eq!(bytes(&folder, &cube), expected, "{changed}");
     }
 }
 
@@ -337,14 +340,8 @@ fn like_refuses_other_sizes_and_cuts_a_window() {
     USUAL.write(&folder, "image", sample(false));
     fs::write(folder.join("image.hdr"), placed_header()).unwrap();
     let window = ["--rows", "1:4", "--columns", "2:5", "--take-bands", "1:3"];
-    succeeds(
-        &folder,
-        &[
-            &["pack", "image.hdr", "w.cube", "--bare", "-q"],
-            &window[..],
-        ]
-        .concat(),
-    );
+    let words = [&["pack", "image.hdr", "w.cube"], &window[..]].concat();
+    succeeds(&folder, &words);
     let like = ["open", "w.cube", "w.hdr", "--like", "image.hdr"];
     let message = fails(&folder, REFUSED, &like);
     assert!(

@@ -15,7 +15,14 @@ pub const BANDS: usize = 3;
 /// The program that is tested; another one can be named, to see which tests it fails.
 pub fn program() -> PathBuf {
     let named = std::env::var_os("REMULINGKA_PROGRAM");
-    named.map_or(env!("CARGO_BIN_EXE_remulingka").into(), PathBuf::from)
+    let program = named.map_or(env!("CARGO_BIN_EXE_remulingka").into(), PathBuf::from);
+    // A program that is not there fails every test, and says nothing about any.
+    assert!(
+        program.is_file(),
+        "there is no program {}",
+        program.display()
+    );
+    program
 }
 
 /// The statuses of the program.
