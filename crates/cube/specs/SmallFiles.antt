@@ -34,8 +34,8 @@ use Rattle.cube.specs.File.{fileBits, file}
 abbrev settings : Bool → ℕ → Settings
 settings sequential depth = record {
   image = record { user = 77; nx = 3; ny = 3; nz = 2; signed = true; depth = 12; sequential = sequential; interleave = depth; word = 3 };
-  predictor = record { bands = 1; reduced = false; column = false; register = 40; resolution = 6; interval = 16; vmin = negsuc 1; vmax = pos 5; custom = true; precision = 4 };
-  coder = record { unary = 9; rescaling = 5; initial = 2; tabled = true; constant = 0 };
+  predictor = record { bands = 1; reduced = false; column = false; register = 40; resolution = 6; interval = 16; vmin = negsuc 1; vmax = pos 5; custom = true; precision = 4; weights_in_file = true };
+  coder = record { unary = 9; rescaling = 5; initial = 2; tabled = true; constant = 0; k_in_file = true };
 }
 
 -- weights of four bits and a k' for each band
@@ -54,8 +54,8 @@ samples =
 abbrev wrapping : Settings
 wrapping = record {
   image = record { user = 0; nx = 2; ny = 1; nz = 3; signed = false; depth = 16; sequential = false; interleave = 2; word = 8 };
-  predictor = record { bands = 2; reduced = false; column = false; register = 64; resolution = 13; interval = 64; vmin = negsuc 0; vmax = pos 3; custom = false; precision = 0 };
-  coder = record { unary = 32; rescaling = 9; initial = 8; tabled = false; constant = 9 };
+  predictor = record { bands = 2; reduced = false; column = false; register = 64; resolution = 13; interval = 64; vmin = negsuc 0; vmax = pos 3; custom = false; precision = 0; weights_in_file = false };
+  coder = record { unary = 32; rescaling = 9; initial = 8; tabled = false; constant = 9; k_in_file = false };
 }
 
 -- the files, byte by byte

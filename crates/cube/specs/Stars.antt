@@ -46,8 +46,8 @@ use Rattle.cube.specs.Open.{Cube, atEnd, behindHeader, openedBits, opene
 abbrev rowOfBands : (nx nz depth word : ℕ) (sequential : Bool) (interleave : ℕ) (vmin : ℤ) (rescaling constant : ℕ) → Settings
 rowOfBands nx nz depth word sequential interleave vmin rescaling constant = record {
   image = record { user = 0; nx = nx; ny = 1; nz = nz; signed = false; depth = depth; sequential = sequential; interleave = interleave; word = word };
-  predictor = record { bands = 0; reduced = true; column = true; register = 32; resolution = 4; interval = 16; vmin = vmin; vmax = pos 3; custom = false; precision = 0 };
-  coder = record { unary = 8; rescaling = rescaling; initial = 1; tabled = false; constant = constant };
+  predictor = record { bands = 0; reduced = true; column = true; register = 32; resolution = 4; interval = 16; vmin = vmin; vmax = pos 3; custom = false; precision = 0; weights_in_file = false };
+  coder = record { unary = 8; rescaling = rescaling; initial = 1; tabled = false; constant = constant; k_in_file = false };
 }
 
 -- the settings of the worked files: Nx columns, D bits, words of B bytes

@@ -18,7 +18,7 @@ use Rattle.refusals.specs.Reading.{Read, got, refused}
 use Rattle.refusals.specs.RefusalLaws.{refusals-closed}
 use Rattle.refusals.specs.Calls.{among, lengthRefuses, packRefuses, openRefuses, lookRefuses}
 use Rattle.settings.specs.declared.Settings.{Settings}
-use Rattle.settings.specs.Legal.{sampleCount}
+use Rattle.settings.specs.Legal.{settingsLegal, sampleCount}
 use Rattle.settings.specs.Tables.{tableStride, scratchStride}
 use Rattle.settings.specs.Fine.{Fine}
 use Rattle.header.specs.Tables.{usedTables}
@@ -275,8 +275,8 @@ c-opens-success {bytes} {scratch} {area} {image} {slots} {r} {t} {i} {s} p z = g
     go (no h) = let n : numberIn r ≡ 3 = open-number p ∙ ap (λ x. openedNumber (openAnswer x)) (opened-short slots (lentOf scratch area image) bytes (omega arith)) in absurd (omega arith)
 
 -- the settings area names the settings
-pub slots-name : (S : Settings) (rest s : List ℤ) → usedSettings S ≡ S → s ≡ slotsOf S ++ rest → settingsFrom s ≡ S
-slots-name S rest s u e = ap settingsFrom e ∙ from-front S rest ∙ settings-back S u
+pub slots-name : (S : Settings) (rest s : List ℤ) → settingsLegal S ≡ true → usedSettings S ≡ S → s ≡ slotsOf S ++ rest → settingsFrom s ≡ S
+slots-name S rest s l u e = ap settingsFrom e ∙ from-front S rest ∙ settings-back S l u
 
 -- "Bytes are opened exactly when they are the file of some legal settings and image": what opens is such a file, with its settings in the slots;
 -- such a file opens, with memory enough; and what is refused then is none
@@ -289,7 +289,7 @@ pub c-opens-exactly : {bytes : List ℕ} {scratch area image slots : List ℤ} {
     → file S tables samples ≡ bytes → ⊥)
 unfolding openedNumber slotsAfter
 c-opens-exactly {bytes} {scratch} {area} {image} {slots} {r} {t} {i} {s} b p = (
-  λ z. let k = c-opens-success p z in let d = opens-file b (k .1) (k .0) refl in (k .0, d .0, d .1, d .2, k .2, k .3, slots-name (k .0) _ _ (d .2 .named) (k .3)),
+  λ z. let k = c-opens-success p z in let d = opens-file b (k .1) (k .0) refl in (k .0, d .0, d .1, d .2, k .2, k .3, slots-name (k .0) _ _ (d .2 .allowed .legal) (d .2 .named) (k .3)),
   back,
   λ z h S tables samples a m f. z (back h S tables samples a m f .0),
 )
@@ -325,8 +325,10 @@ pub c-one-image-one-file : {b b′ : List ℕ} {scratch area image slots scratch
 c-one-image-one-file {b′ = b′} {scratch′ = scratch′} {area′ = area′} {image′ = image′} {t = t} {i} {s} {t′ = t′} {i′} {s′} g g′ p p′ z z′ e et ei =
     let k = c-opens-success p z in
     let k′ = c-opens-success p′ z′ in
-    let n : settingsFrom s ≡ k .0 = slots-name (k .0) _ s (opens-file g (k .1) (k .0) refl .2 .named) (k .3) in
-    let n′ : settingsFrom s′ ≡ k′ .0 = slots-name (k′ .0) _ s′ (opens-file g′ (k′ .1) (k′ .0) refl .2 .named) (k′ .3) in
+    let d = opens-file g (k .1) (k .0) refl .2 in
+    let d′ = opens-file g′ (k′ .1) (k′ .0) refl .2 in
+    let n : settingsFrom s ≡ k .0 = slots-name (k .0) _ s (d .allowed .legal) (d .named) (k .3) in
+    let n′ : settingsFrom s′ ≡ k′ .0 = slots-name (k′ .0) _ s′ (d′ .allowed .legal) (d′ .named) (k′ .3) in
     one-image-one-file g g′ (k .1)
     (subst (λ (S : Settings). Opens b′ scratch′ area′ image′ (opening.Settings S) t′ i′) (sym n′ ∙ sym e ∙ n) (k′ .1))
     (subst (λ (S : Settings). take (tableStride * S .image .nz) t ≡ take (tableStride * S .image .nz) t′) n et)
@@ -340,7 +342,7 @@ unfolding packedWord packedNumber packedValue slotsOf
 c-packs-again {slots = slots} {t = t} {i} {s} {scratch′} {out} {o = o} g p z m h q =
     let k = c-opens-success p z in
     let d = opens-file g (k .1) (k .0) refl .2 in
-    let n : settingsFrom s ≡ k .0 = slots-name (k .0) _ s (d .named) (k .3) in
+    let n : settingsFrom s ≡ k .0 = slots-name (k .0) _ s (d .allowed .legal) (d .named) (k .3) in
     let l : slotCount ≤ length s = let e = ap length (k .3) ∙ length-append (slotsOf (k .0)) (drop slotCount slots) in omega arith in
     let f : holds s ≡ true = ap holds (k .3) ∙ slots-hold (k .0) _ (d .allowed .legal) in
     let c = c-packs-is q (slots-fit s l f) in

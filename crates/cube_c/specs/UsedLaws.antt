@@ -1,5 +1,5 @@
 -- Settings that a reader gives are small enough for slots, and come back from them.
-use mathlib.Core.Path.{_≡_, refl, ap, _∙_}
+use mathlib.Core.Path.{_≡_, refl, sym, ap, _∙_}
 use mathlib.Core.Bool.{Bool, true, false, cond}
 use Prim.Native.Nat.{ℕ, _<_, _^_}
 use native.Mathlib.Omega.{arith}
@@ -68,10 +68,17 @@ flag-back : (b : Bool) → isSet (flagSlot b) ≡ b
 flag-back true = refl
 flag-back false = refl
 
--- settings that name themselves come back from their slots
-pub settings-back : (S : Settings) → usedSettings S ≡ S → settingsFrom (slotsOf S) ≡ S
+-- two flags that stand together are one
+together : (a b : Bool) → (a ≡ true → b ≡ true) → (b ≡ true → a ≡ true) → a ≡ b
+together true b f g = sym (f refl)
+together false true f g = g refl
+together false false f g = refl
+
+-- legal settings that name themselves come back from their slots
+pub settings-back : (S : Settings) → settingsLegal S ≡ true → usedSettings S ≡ S → settingsFrom (slotsOf S) ≡ S
 unfolding settingsFrom imageFrom predictorFrom coderFrom slotsOf usedSettings usedImage usedPredictor usedCoder
-settings-back S u =
+settings-back S e u =
+    let legal = legal-settings S e in
     let I = S .image in
     let P = S .predictor in
     let C = S .coder in
@@ -104,6 +111,7 @@ settings-back S u =
         vmax = P .vmax;
         custom = flag-back (P .custom) i;
         precision = q i;
+        weights_in_file = (flag-back (P .custom) ∙ together (P .custom) (P .weights_in_file) (legal .predictor .weights-there) (legal .predictor .weights-used)) i;
       };
       coder = record {
         unary = C .unary;
@@ -111,5 +119,6 @@ settings-back S u =
         initial = C .initial;
         tabled = flag-back (C .tabled) i;
         constant = k i;
+        k_in_file = (flag-back (C .tabled) ∙ together (C .tabled) (C .k_in_file) (legal .coder .k-there) (legal .coder .k-used)) i;
       };
     }

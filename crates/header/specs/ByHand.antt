@@ -17,8 +17,8 @@ use Rattle.header.specs.Write.{weightPart, accumulatorPart, header}
 abbrev settings : Settings
 settings = record {
   image = record { user = 77; nx = 3; ny = 5; nz = 2; signed = true; depth = 12; sequential = false; interleave = 2; word = 3 };
-  predictor = record { bands = 1; reduced = true; column = false; register = 40; resolution = 6; interval = 64; vmin = negsuc 1; vmax = pos 5; custom = true; precision = 4 };
-  coder = record { unary = 9; rescaling = 5; initial = 2; tabled = true; constant = 0 };
+  predictor = record { bands = 1; reduced = true; column = false; register = 40; resolution = 6; interval = 64; vmin = negsuc 1; vmax = pos 5; custom = true; precision = 4; weights_in_file = true };
+  coder = record { unary = 9; rescaling = 5; initial = 2; tabled = true; constant = 0; k_in_file = true };
 }
 
 -- k' = 2 and no weight in the first band; the weight −3 and k' = 5 in the second

@@ -18,8 +18,8 @@ use Rattle.settings.specs.declared.Coder.{Coder}
 use Rattle.settings.specs.Legal.{between, imageLegal, predictorLegal, coderLegal, limited, sampleCount}
 use Rattle.settings.specs.LegalLaws.{LegalImage, LegalPredictor, LegalCoder, Power}
 use Rattle.header.specs.Fields.{fields, split, flag}
-use Rattle.header.specs.Places.{_‼_, encodingOrder, interleavingDepth, coderType, weightMethod, weightPrecision, accumulatorConstant, accumulatorTableFlag}
-use Rattle.header.specs.Parts.{imageFields, imageWidths, imageOf, predictorFields, predictorWidths, predictorOf, coderFields, coderWidths, coderOf, exponentOf, unwrapped, isOne, usedImage, usedPredictor, usedCoder, imageBits, predictorBits, coderBits}
+use Rattle.header.specs.Places.{_‼_, encodingOrder, interleavingDepth, coderType, weightMethod, weightPrecision, accumulatorConstant}
+use Rattle.header.specs.Parts.{imageFields, imageWidths, imageOf, predictorFields, predictorWidths, predictorOf, coderFields, coderWidths, coderOf, exponentOf, unwrapped, isOne, noConstant, usedImage, usedPredictor, usedCoder, imageBits, predictorBits, coderBits}
 use Rattle.header.specs.FieldLaws.{widths, values, total, split-fields, length-fields}
 
 -- ---- lengths
@@ -99,9 +99,14 @@ flagged-value : (b : Bool) (w v : ℕ) → (b ≡ true → v < 2 ^ w) → cond (
 flagged-value true w v h = small-value w v (h refl)
 flagged-value false w v h = refl
 
-unflagged-value : (b : Bool) (w u v : ℕ) → (b ≡ false → v < 2 ^ w) → cond (isOne (flag b % 2 ^ 1)) 0 (cond b u v % 2 ^ w) ≡ cond b 0 v
-unflagged-value true w u v h = refl
-unflagged-value false w u v h = small-value w v (h refl)
+-- all ones in place of K, which is below them
+missing-value : (b : Bool) (v : ℕ) → (b ≡ false → v < 15) → noConstant (cond b 15 v % 2 ^ 4) ≡ b
+missing-value true v h = refl
+missing-value false v h = let k = h refl in rw (small-value 4 v (omega arith), ne-eqb v 15 (λ e. omega arith))
+
+constant-value : (b : Bool) (v : ℕ) → (b ≡ false → v < 15) → cond (noConstant (cond b 15 v % 2 ^ 4)) 0 (cond b 15 v % 2 ^ 4) ≡ cond b 0 v
+constant-value true v h = refl
+constant-value false v h = let k = h refl in rw (small-value 4 v (omega arith), ne-eqb v 15 (λ e. omega arith))
 
 unflagged-wrapped : (b : Bool) (w v : ℕ) → (b ≡ false → (0 < v) × (v ≤ 2 ^ w)) → cond (isOne (flag b % 2 ^ 1)) 0 (unwrapped (2 ^ w) (cond b 0 v % 2 ^ w)) ≡ cond b 0 v
 unflagged-wrapped true w v h = refl
@@ -140,16 +145,18 @@ predictor-values I P l = λ i. record {
   vmax = raised-value (P .vmax) (≤ℤ-trans (negsuc 5) (P .vmin) (P .vmax) (l .vmin-least) (l .vmin-vmax)) (l .vmax-most) i;
   custom = flag-value (P .custom) i;
   precision = flagged-value (P .custom) 5 (P .precision) (λ e. omega (arith, l .precise e .1, l .resolution-most)) i;
+  weights_in_file = flag-value (P .weights_in_file) i;
 }
 
 coder-values : (I : Image) (C : Coder) → LegalImage I → LegalCoder I C → coderOf (values (coderFields C)) ≡ usedCoder C
 unfolding coderOf coderFields values usedCoder
-coder-values I C d l = λ i. record {
+coder-values I C d l = let few : C .tabled ≡ false → C .constant < 15 = λ e. omega (arith, l .constant-most e, d .depth-most) in λ i. record {
   unary = unwrapped-value 5 (C .unary) (omega (arith, l .unary-least)) (l .unary-most) i;
   rescaling = lowered-value 3 (C .rescaling) (l .rescaling-least) (omega (arith, l .rescaling-most)) i;
   initial = unwrapped-value 3 (C .initial) (l .initial-least) (l .initial-most) i;
-  tabled = flag-value (C .tabled) i;
-  constant = unflagged-value (C .tabled) 4 15 (C .constant) (λ e. omega (arith, l .constant-most e, d .depth-most)) i;
+  tabled = missing-value (C .tabled) (C .constant) few i;
+  constant = constant-value (C .tabled) (C .constant) few i;
+  k_in_file = flag-value (C .k_in_file) i;
 }
 
 -- and so from the bits, whatever follows
@@ -228,4 +235,4 @@ predictor-named v = rw (cond-then (isOne (v ‼ weightMethod)) (v ‼ weightPrec
 
 pub coder-named : (v : List ℕ) → usedCoder (coderOf v) ≡ coderOf v
 unfolding usedCoder coderOf
-coder-named v = rw (cond-else (isOne (v ‼ accumulatorTableFlag)) 0 0 (v ‼ accumulatorConstant))
+coder-named v = rw (cond-else (noConstant (v ‼ accumulatorConstant)) 0 0 (v ‼ accumulatorConstant))

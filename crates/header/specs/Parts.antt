@@ -8,7 +8,7 @@ use Rattle.settings.specs.declared.Image.{Image}
 use Rattle.settings.specs.declared.Predictor.{Predictor}
 use Rattle.settings.specs.declared.Coder.{Coder}
 use Rattle.header.specs.Fields.{Field, _∶_, flag}
-use Rattle.header.specs.Places.{_‼_, userData, xSize, ySize, zSize, sampleType, dynamicRange, encodingOrder, interleavingDepth, wordSize, predictionBands, predictionMode, localSumType, registerSize, weightResolution, exponentInterval, initialExponent, finalExponent, weightMethod, weightPrecision, unaryLimit, rescalingSize, initialCount, accumulatorConstant, accumulatorTableFlag}
+use Rattle.header.specs.Places.{_‼_, userData, xSize, ySize, zSize, sampleType, dynamicRange, encodingOrder, interleavingDepth, wordSize, predictionBands, predictionMode, localSumType, registerSize, weightResolution, exponentInterval, initialExponent, finalExponent, weightMethod, weightTableFlag, weightPrecision, unaryLimit, rescalingSize, initialCount, accumulatorConstant, accumulatorTableFlag}
 
 -- 12 bytes: user data, Nx, Ny, Nz, sample type, two reserved, D, order, M, reserved, B, coder type, five reserved
 unfoldable pub imageFields : Image → ℕ → List Field
@@ -35,7 +35,7 @@ unfoldable pub predictorFields : Predictor → List Field
 predictorFields P =
     1 ∶ 0 ∷ 1 ∶ 0 ∷ 4 ∶ P .bands ∷ 1 ∶ flag (P .reduced) ∷ 1 ∶ 0 ∷ 1 ∶ flag (P .column) ∷ 1 ∶ 0 ∷ 6 ∶ P .register
     ∷ 4 ∶ (P .resolution - 4) ∷ 4 ∶ (exponentOf 11 (P .interval) - 4) ∷ 4 ∶ natAbs (P .vmin +ℤ pos 6)
-    ∷ 4 ∶ natAbs (P .vmax +ℤ pos 6) ∷ 1 ∶ 0 ∷ 1 ∶ flag (P .custom) ∷ 1 ∶ flag (P .custom)
+    ∷ 4 ∶ natAbs (P .vmax +ℤ pos 6) ∷ 1 ∶ 0 ∷ 1 ∶ flag (P .custom) ∷ 1 ∶ flag (P .weights_in_file)
     ∷ 5 ∶ cond (P .custom) (P .precision) 0 ∷ []
 
 -- the widths of table 5-2
@@ -52,7 +52,7 @@ predictorEnd = imageBits + predictorBits
 -- 2 bytes: Umax, γ* − 4, γ0, K or all ones, table flag
 unfoldable pub coderFields : Coder → List Field
 coderFields C =
-    5 ∶ C .unary ∷ 3 ∶ (C .rescaling - 4) ∷ 3 ∶ C .initial ∷ 4 ∶ cond (C .tabled) 15 (C .constant) ∷ 1 ∶ flag (C .tabled) ∷ []
+    5 ∶ C .unary ∷ 3 ∶ (C .rescaling - 4) ∷ 3 ∶ C .initial ∷ 4 ∶ cond (C .tabled) 15 (C .constant) ∷ 1 ∶ flag (C .k_in_file) ∷ []
 
 -- the widths of table 5-3
 abbrev pub coderWidths : List ℕ
@@ -74,6 +74,10 @@ unwrapped m v = cond (eqb v 0) m v
 -- a flag off its number
 abbrev pub isOne : ℕ → Bool
 isOne v = eqb v 1
+
+-- all ones, which say that there is no K
+abbrev pub noConstant : ℕ → Bool
+noConstant v = eqb v 15
 
 -- the image settings that the 18 numbers of table 5-1 name
 unfoldable pub imageOf : List ℕ → Image
@@ -102,6 +106,7 @@ predictorOf v = record {
   vmax = pos (v ‼ finalExponent) -ℤ pos 6;
   custom = isOne (v ‼ weightMethod);
   precision = cond (isOne (v ‼ weightMethod)) (v ‼ weightPrecision) 0;
+  weights_in_file = isOne (v ‼ weightTableFlag);
 }
 
 -- the coder settings that the 5 numbers of table 5-3 name
@@ -110,8 +115,9 @@ coderOf v = record {
   unary = unwrapped (2 ^ 5) (v ‼ unaryLimit);
   rescaling = v ‼ rescalingSize + 4;
   initial = unwrapped (2 ^ 3) (v ‼ initialCount);
-  tabled = isOne (v ‼ accumulatorTableFlag);
-  constant = cond (isOne (v ‼ accumulatorTableFlag)) 0 (v ‼ accumulatorConstant);
+  tabled = noConstant (v ‼ accumulatorConstant);
+  constant = cond (noConstant (v ‼ accumulatorConstant)) 0 (v ‼ accumulatorConstant);
+  k_in_file = isOne (v ‼ accumulatorTableFlag);
 }
 
 -- ---- settings that are none: M when band-sequential, Q with default weights, K beside its table
@@ -143,6 +149,7 @@ usedPredictor P = record {
   vmax = P .vmax;
   custom = P .custom;
   precision = cond (P .custom) (P .precision) 0;
+  weights_in_file = P .weights_in_file;
 }
 
 -- K as 0 where there is a table of k'
@@ -153,4 +160,5 @@ usedCoder C = record {
   initial = C .initial;
   tabled = C .tabled;
   constant = cond (C .tabled) 0 (C .constant);
+  k_in_file = C .k_in_file;
 }

@@ -102,6 +102,7 @@ fn write_predictor(t: Tail, out: &mut [u8], i: Image, p: Predictor) -> Tail
     let vmin = raised(p.vmin);
     let vmax = raised(p.vmax);
     let custom = chosen(p.custom, 1, 0);
+    let in_file = chosen(p.weights_in_file, 1, 0);
     let precision = chosen(p.custom, p.precision, 0);
     let resolution = p.resolution - 4;
     put_fields(
@@ -123,7 +124,7 @@ fn write_predictor(t: Tail, out: &mut [u8], i: Image, p: Predictor) -> Tail
             vmax,
             0,
             custom,
-            custom,
+            in_file,
             precision,
         ],
     )
@@ -135,12 +136,12 @@ fn write_coder(t: Tail, out: &mut [u8], i: Image, c: Coder) -> Tail
     ensures { λ r. ⌜ Put t (now (out .entry)) (fields (coderFields c)) r (now (out .exit)) ⌝ }
 {
     let constant = chosen(c.tabled, 15, c.constant);
-    let tabled = chosen(c.tabled, 1, 0);
+    let in_file = chosen(c.k_in_file, 1, 0);
     put_fields(
         t,
         out,
         &CODER_WIDTHS,
-        &[c.unary, c.rescaling - 4, c.initial, constant, tabled],
+        &[c.unary, c.rescaling - 4, c.initial, constant, in_file],
     )
 }
 

@@ -24,7 +24,7 @@ use Rattle.settings.specs.Legal.{imageLegal, predictorLegal, coderLegal, limite
 use Rattle.header.specs.Fields.{split}
 use Rattle.header.specs.Places.{_‼_, coderType}
 use Rattle.header.specs.Parts.{imageWidths, imageOf, predictorWidths, predictorOf, coderWidths, coderOf, imageBits, predictorBits, coderBits}
-use Rattle.header.specs.Plain.{imagePlain, predictorPlain, coderPlain}
+use Rattle.header.specs.Plain.{imagePlain, predictorPlain}
 use Rattle.header.specs.Read.{present, readImage, readPredictor, readCoder}
 use Rattle.header_reader.specs.Answers.{answered}
 use Rattle.header_reader.proofs.PlainLaws.{image-plain, predictor-plain, coder-plain}
@@ -91,6 +91,10 @@ module _ {x : Read Image} {pass : Bool} {kind : ℕ} {I : Image} {l : List Bool}
 
 -- ---- the three parts as such
 
+and-true : (a : Bool) → (a && true) ≡ a
+and-true true = refl
+and-true false = refl
+
 pub image-part : (l : List Bool) (v : List ℕ) (I : Image) (legal plain : Bool) → ltb (length l) imageBits ≡ false → v ≡ split imageWidths l → I ≡ imageOf v → legal ≡ imageLegal I → plain ≡ imagePlain v
     → PartSeen (readImage l) imageBits (legal && plain) (eqb (v ‼ coderType) 1 ⇒ BlockCoder ∷ not (limited I) ⇒ HouseLimit ∷ []) I l
 unfolding readImage
@@ -101,10 +105,10 @@ pub predictor-part : (I : Image) (l : List Bool) (v : List ℕ) (P : Predictor) 
 unfolding readPredictor
 predictor-part I l v P legal plain h e q b d = record { there = h; is = rw (b, d, q, e, predictor-plain I l (ltb-false (length l) predictorBits h)) }
 
-pub coder-part : (I : Image) (l : List Bool) (v : List ℕ) (C : Coder) (legal plain : Bool) → ltb (length l) coderBits ≡ false → v ≡ split coderWidths l → C ≡ coderOf v
-    → legal ≡ coderLegal I C → plain ≡ coderPlain v → PartSeen (readCoder I l) coderBits (legal && plain) [] C l
+pub coder-part : (I : Image) (l : List Bool) (v : List ℕ) (C : Coder) (legal : Bool) → ltb (length l) coderBits ≡ false → v ≡ split coderWidths l → C ≡ coderOf v
+    → legal ≡ coderLegal I C → PartSeen (readCoder I l) coderBits legal [] C l
 unfolding readCoder
-coder-part I l v C legal plain h e q b d = record { there = h; is = rw (b, d, q, e, coder-plain l (ltb-false (length l) coderBits h)) }
+coder-part I l v C legal h e q b = record { there = h; is = rw (b, q, e, coder-plain l (ltb-false (length l) coderBits h), and-true) }
 
 -- ---- from an answer back to what was read
 

@@ -18,9 +18,9 @@ use Rattle.settings.specs.Truths.{parts, whole, or-else}
 use Rattle.header.specs.Fields.{fields, split, same, flag}
 use Rattle.header.specs.FieldLaws.{widths, values, total, split-lt, split-same, same-split}
 use Rattle.header.specs.Places.{_‼_, userData, xSize, ySize, zSize, sampleType, reservedBehindType, largeRangeFlag, dynamicRange, encodingOrder, interleavingDepth, reservedBeforeWord, wordSize, coderType, hybridCoder, reservedBehindCoder, fidelityControl, reservedBehindFidelity, supplementaryTables, reservedInFront, representativeFlag, predictionBands, predictionMode, exponentOffsetFlag, localSumType, narrowSums, registerSize, weightResolution, exponentInterval, initialExponent, finalExponent, exponentOffsetTableFlag, weightMethod, weightTableFlag, weightPrecision, unaryLimit, rescalingSize, initialCount, accumulatorConstant, accumulatorTableFlag}
-use Rattle.header.specs.Parts.{imageFields, imageWidths, imageOf, predictorFields, predictorWidths, predictorOf, coderFields, coderWidths, coderOf, exponentOf, unwrapped, isOne, imageBits, predictorBits, coderBits}
+use Rattle.header.specs.Parts.{imageFields, imageWidths, imageOf, predictorFields, predictorWidths, predictorOf, coderFields, coderWidths, coderOf, exponentOf, unwrapped, isOne, noConstant, imageBits, predictorBits, coderBits}
 use Rattle.header.specs.PartLaws.{exponent-power}
-use Rattle.header.specs.Plain.{imagePlain, predictorPlain, coderPlain}
+use Rattle.header.specs.Plain.{imagePlain, predictorPlain}
 
 -- two tests that show each other are the same
 pub both : (a b : Bool) → (a ≡ true → b ≡ true) → (b ≡ true → a ≡ true) → a ≡ b
@@ -67,14 +67,13 @@ where-back : (b : Bool) (v : ℕ) → v < 2 ^ 5 → (b || eqb v 0) ≡ true → 
 where-back true v h e = small 5 v h
 where-back false v h e = eqb-true v 0 e
 
--- K is all ones beside a flag
-ones-forth : (b : Bool) (v x : ℕ) → v ≡ cond b 15 x % 2 ^ 4 → (not b || eqb v 15) ≡ true
-ones-forth true v x e = eq-eqb v 15 e
-ones-forth false v x e = refl
-
-ones-back : (b : Bool) (v : ℕ) → v < 2 ^ 4 → (not b || eqb v 15) ≡ true → v ≡ cond b 15 (cond b 0 v) % 2 ^ 4
-ones-back true v h e = eqb-true v 15 e
-ones-back false v h e = small 4 v h
+-- all ones where there is no K
+ones-back : (v : ℕ) → v < 2 ^ 4 → v ≡ cond (noConstant v) 15 (cond (noConstant v) 0 v) % 2 ^ 4
+ones-back v h = go (noConstant v) refl
+  where
+    go : (b : Bool) → noConstant v ≡ b → v ≡ cond b 15 (cond b 0 v) % 2 ^ 4
+    go true e = eqb-true v 15 e
+    go false e = small 4 v h
 
 -- ---- the image
 
@@ -126,7 +125,7 @@ raised-back v h =
     small 4 v h ∙ ap (λ (x : ℤ). natAbs x % 2 ^ 4) (sym e)
 
 abbrev predictorTests : List ℕ → List Bool
-predictorTests v = eqb (v ‼ representativeFlag) 0 ∷ eqb (v ‼ exponentOffsetFlag) 0 ∷ eqb (v ‼ narrowSums) 0 ∷ eqb (v ‼ exponentOffsetTableFlag) 0 ∷ eqb (v ‼ weightTableFlag) (v ‼ weightMethod) ∷ (isOne (v ‼ weightMethod) || eqb (v ‼ weightPrecision) 0) ∷ []
+predictorTests v = eqb (v ‼ representativeFlag) 0 ∷ eqb (v ‼ exponentOffsetFlag) 0 ∷ eqb (v ‼ narrowSums) 0 ∷ eqb (v ‼ exponentOffsetTableFlag) 0 ∷ (isOne (v ‼ weightMethod) || eqb (v ‼ weightPrecision) 0) ∷ []
 
 predictor-forth : (l : List Bool) → same (take predictorBits l) (fields (predictorFields (predictorOf (split predictorWidths l)))) ≡ true → predictorPlain (split predictorWidths l) ≡ true
 unfolding predictorFields predictorOf widths values total
@@ -135,7 +134,7 @@ predictor-forth l e =
     let q : v ≡ values (predictorFields (predictorOf v)) = same-split (predictorFields (predictorOf v)) l e in
     let at : (i : ℕ) → v ‼ i ≡ values (predictorFields (predictorOf v)) ‼ i = λ i. ap (λ (x : List ℕ). x ‼ i) q in
     whole (eqb (v ‼ reservedInFront) 0) (predictorTests v)
-    (eq-eqb _ 0 (at reservedInFront), (eq-eqb _ 0 (at representativeFlag), (eq-eqb _ 0 (at exponentOffsetFlag), (eq-eqb _ 0 (at narrowSums), (eq-eqb _ 0 (at exponentOffsetTableFlag), (eq-eqb (v ‼ weightTableFlag) (v ‼ weightMethod) (at weightTableFlag ∙ sym (at weightMethod)), (where-forth (isOne (v ‼ weightMethod)) (v ‼ weightPrecision) (predictorOf v .precision) (at weightPrecision), tt)))))))
+    (eq-eqb _ 0 (at reservedInFront), (eq-eqb _ 0 (at representativeFlag), (eq-eqb _ 0 (at exponentOffsetFlag), (eq-eqb _ 0 (at narrowSums), (eq-eqb _ 0 (at exponentOffsetTableFlag), (where-forth (isOne (v ‼ weightMethod)) (v ‼ weightPrecision) (predictorOf v .precision) (at weightPrecision), tt))))))
 
 predictor-back : (I : Image) (l : List Bool) → predictorBits ≤ length l → predictorLegal I (predictorOf (split predictorWidths l)) ≡ true → predictorPlain (split predictorWidths l) ≡ true
     → same (take predictorBits l) (fields (predictorFields (predictorOf (split predictorWidths l)))) ≡ true
@@ -150,7 +149,7 @@ predictor-back I l h g e =
     ∷ eqb-true (n exponentOffsetFlag) 0 (k .1 .1 .0) i ∷ flagged (n localSumType) (lt localSumType) i ∷ eqb-true (n narrowSums) 0 (k .1 .1 .1 .0) i ∷ wrapped 6 (n registerSize) (lt registerSize) i
     ∷ shifted 4 (n weightResolution) (lt weightResolution) i ∷ exponent-back (n exponentInterval) (lt exponentInterval) (legal-predictor I (predictorOf v) g .interval-power) i ∷ raised-back (n initialExponent) (lt initialExponent) i
     ∷ raised-back (n finalExponent) (lt finalExponent) i ∷ eqb-true (n exponentOffsetTableFlag) 0 (k .1 .1 .1 .1 .0) i ∷ flagged (n weightMethod) (lt weightMethod) i
-    ∷ (eqb-true (n weightTableFlag) (n weightMethod) (k .1 .1 .1 .1 .1 .0) ∙ flagged (n weightMethod) (lt weightMethod)) i ∷ where-back (isOne (n weightMethod)) (n weightPrecision) (lt weightPrecision) (k .1 .1 .1 .1 .1 .1 .0) i ∷ [])
+    ∷ flagged (n weightTableFlag) (lt weightTableFlag) i ∷ where-back (isOne (n weightMethod)) (n weightPrecision) (lt weightPrecision) (k .1 .1 .1 .1 .1 .0) i ∷ [])
 
 pub predictor-plain : (I : Image) (l : List Bool) → predictorBits ≤ length l
     → (predictorLegal I (predictorOf (split predictorWidths l)) && same (take predictorBits l) (fields (predictorFields (predictorOf (split predictorWidths l)))))
@@ -159,20 +158,12 @@ predictor-plain I l h = and-same _ _ _ (λ g. both _ _ (predictor-forth l) (pred
 
 -- ---- the coder
 
-coder-forth : (l : List Bool) → same (take coderBits l) (fields (coderFields (coderOf (split coderWidths l)))) ≡ true → coderPlain (split coderWidths l) ≡ true
-unfolding coderFields coderOf widths values total
-coder-forth l e =
-    let v : List ℕ = split coderWidths l in
-    ones-forth (isOne (v ‼ accumulatorTableFlag)) (v ‼ accumulatorConstant) (coderOf v .constant) (ap (λ (x : List ℕ). x ‼ accumulatorConstant) (same-split (coderFields (coderOf v)) l e))
-
-coder-back : (l : List Bool) → coderBits ≤ length l → coderPlain (split coderWidths l) ≡ true → same (take coderBits l) (fields (coderFields (coderOf (split coderWidths l)))) ≡ true
+-- every number of table 5-3 says a setting
+pub coder-plain : (l : List Bool) → coderBits ≤ length l → same (take coderBits l) (fields (coderFields (coderOf (split coderWidths l)))) ≡ true
 unfolding coderFields coderOf widths values total split
-coder-back l h e =
+coder-plain l h =
     let v : List ℕ = split coderWidths l in
     let n : ℕ → ℕ = λ i. v ‼ i in
     let lt : (i : ℕ) → n i < 2 ^ getD coderWidths i 0 = split-lt coderWidths l in
     split-same (coderFields (coderOf v)) l h
-    (λ i. wrapped 5 (n unaryLimit) (lt unaryLimit) i ∷ shifted 3 (n rescalingSize) (lt rescalingSize) i ∷ wrapped 3 (n initialCount) (lt initialCount) i ∷ ones-back (isOne (n accumulatorTableFlag)) (n accumulatorConstant) (lt accumulatorConstant) e i ∷ flagged (n accumulatorTableFlag) (lt accumulatorTableFlag) i ∷ [])
-
-pub coder-plain : (l : List Bool) → coderBits ≤ length l → same (take coderBits l) (fields (coderFields (coderOf (split coderWidths l)))) ≡ coderPlain (split coderWidths l)
-coder-plain l h = both _ _ (coder-forth l) (coder-back l h)
+    (λ i. wrapped 5 (n unaryLimit) (lt unaryLimit) i ∷ shifted 3 (n rescalingSize) (lt rescalingSize) i ∷ wrapped 3 (n initialCount) (lt initialCount) i ∷ ones-back (n accumulatorConstant) (lt accumulatorConstant) i ∷ flagged (n accumulatorTableFlag) (lt accumulatorTableFlag) i ∷ [])

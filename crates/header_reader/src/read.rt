@@ -24,7 +24,6 @@ use header::sizes::padded;
 use header::sizes::weight_bits;
 use header::sizes::weights_size;
 use header_values::parts::coder_of;
-use header_values::parts::coder_plain;
 use header_values::parts::image_of;
 use header_values::parts::image_plain;
 use header_values::parts::predictor_of;
@@ -146,7 +145,7 @@ fn read_coder(file: &[u8], at: usize, image: Image) -> CoderRead
     }
     let v = coder_numbers(file, at);
     let coder = coder_of(v);
-    if !(coder_legal(image, coder) & coder_plain(v)) {
+    if !coder_legal(image, coder) {
         return CoderRead::Refused(Refusal::IllegalField);
     }
     CoderRead::Coder(coder)

@@ -4,7 +4,7 @@ ghost use mathlib.Core.Bool.{cond};
 ghost use Prim.Native.Nat.{ℕ, _≤_, _<_, _^_};
 ghost use Rattle.header.specs.Places.{_‼_, userData, weightResolution, exponentInterval, initialExponent, finalExponent, rescalingSize};
 ghost use Rattle.header.specs.Parts.{unwrapped, imageOf, predictorOf, coderOf};
-ghost use Rattle.header.specs.Plain.{imagePlain, predictorPlain, coderPlain};
+ghost use Rattle.header.specs.Plain.{imagePlain, predictorPlain};
 use header::fields::chosen;
 use header::places;
 use settings::Coder;
@@ -74,10 +74,11 @@ pub fn predictor_of(v: [u32; 16]) -> Predictor
         vmax: v[places::FINAL_EXPONENT] as i32 - 6,
         custom,
         precision: chosen(custom, v[places::WEIGHT_PRECISION], 0),
+        weights_in_file: v[places::WEIGHT_TABLE_FLAG] == 1,
     }
 }
 
-// The reserved bits are zero, the two flags of the weight table agree, and Q is zero beside default weights.
+// The reserved bits are zero, and Q is zero beside default weights.
 pub fn predictor_plain(v: [u32; 16]) -> bool
     ensures { λ r. ⌜ r ≡ predictorPlain v ⌝ }
 {
@@ -86,28 +87,21 @@ pub fn predictor_plain(v: [u32; 16]) -> bool
         & (v[places::EXPONENT_OFFSET_FLAG] == 0)
         & (v[places::NARROW_SUMS] == 0)
         & (v[places::EXPONENT_OFFSET_TABLE_FLAG] == 0)
-        & (v[places::WEIGHT_TABLE_FLAG] == v[places::WEIGHT_METHOD])
         & ((v[places::WEIGHT_METHOD] == 1) | (v[places::WEIGHT_PRECISION] == 0))
 }
 
-// The coder settings of table 5-3: K is no setting beside its table.
+// The coder settings of table 5-3: all ones say that there is no K. Every number here is one that its settings write.
 pub fn coder_of(v: [u32; 5]) -> Coder
     requires { ⌜ v ‼ rescalingSize < 8 ⌝ }
     ensures { λ r. ⌜ r ≡ coderOf v ⌝ }
 {
-    let tabled = v[places::ACCUMULATOR_TABLE_FLAG] == 1;
+    let tabled = v[places::ACCUMULATOR_CONSTANT] == 15;
     Coder {
         unary: unwrapped(32, v[places::UNARY_LIMIT]),
         rescaling: v[places::RESCALING_SIZE] + 4,
         initial: unwrapped(8, v[places::INITIAL_COUNT]),
         tabled,
         constant: chosen(tabled, 0, v[places::ACCUMULATOR_CONSTANT]),
+        k_in_file: v[places::ACCUMULATOR_TABLE_FLAG] == 1,
     }
-}
-
-// K is all ones beside its table. Without one, all ones are too large a K for any depth.
-pub fn coder_plain(v: [u32; 5]) -> bool
-    ensures { λ r. ⌜ r ≡ coderPlain v ⌝ }
-{
-    !(v[places::ACCUMULATOR_TABLE_FLAG] == 1) | (v[places::ACCUMULATOR_CONSTANT] == 15)
 }

@@ -91,6 +91,7 @@ predictorFrom l = record {
   vmax = slot l 16;
   custom = isSet (slot l 17);
   precision = cond (isSet (slot l 17)) (natAbs (slot l 18)) 0;
+  weights_in_file = isSet (slot l 17);
 }
 
 -- the coder settings
@@ -101,6 +102,7 @@ coderFrom l = record {
   initial = natAbs (slot l 21);
   tabled = isSet (slot l 22);
   constant = cond (isSet (slot l 22)) 0 (natAbs (slot l 23));
+  k_in_file = isSet (slot l 22);
 }
 
 -- the settings

@@ -161,6 +161,7 @@ fn predictor_from(l: &[i32]) -> Predictor
         vmax: l[16],
         custom: custom,
         precision: used_number(l, 18, custom),
+        weights_in_file: custom,
     }
 }
 
@@ -175,6 +176,7 @@ fn coder_from(l: &[i32]) -> Coder
         initial: slot_number(l, 21),
         tabled: tabled,
         constant: used_number(l, 23, !tabled),
+        k_in_file: tabled,
     }
 }
 

@@ -38,8 +38,11 @@ chosen-requires-3 c κs = search needs
 chosen-requires-4 : tie.Need-chosen-requires-4
 chosen-requires-4 c κs = search needs
 
+chosen-requires-5 : tie.Need-chosen-requires-5
+chosen-requires-5 c κs = search needs
+
 sub-resolution : tie.Need-sub-resolution
-sub-resolution c = legal-predictor _ _ (c .before .before .before .before .before .before .before .before .before .before .before .pre .0) .resolution-least
+sub-resolution c = legal-predictor _ _ (c .before .before .before .before .before .before .before .before .before .before .before .before .pre .0) .resolution-least
 
 slice-aggregate-put-fields : tie.Need-slice-aggregate-put-fields
 slice-aggregate-put-fields c = search needs
@@ -49,7 +52,7 @@ slice-aggregate-put-fields-2 c = search needs
 
 put-fields-requires : tie.Need-put-fields-requires
 unfolding fitting
-put-fields-requires c κs = (refl, refl, omega arith, c .before .before .before .before .before .before .before .before .before .before .before .before .before .before .pre .1, c .before .before .before .before .before .before .before .before .before .before .before .before .before .before .pre .2)
+put-fields-requires c κs = (refl, refl, omega arith, c .before .before .before .before .before .before .before .before .before .before .before .before .before .before .before .pre .1, c .before .before .before .before .before .before .before .before .before .before .before .before .before .before .before .pre .2)
 
 same-length : tie.Need-same-length
 same-length c = search needs
@@ -57,10 +60,10 @@ same-length c = search needs
 returns : tie.Need-returns
 unfolding predictorFields fieldsOf
 returns c =
-    let l = legal-predictor _ _ (c .before .before .before .before .before .before .before .before .before .before .before .before .before .before .before .before .before .pre .0) in
-    let low = c .before .before .before .before .before .before .before .before .before .before .before .raised .ensures ∙ ap (λ (v : ℤ). natAbs (v +ℤ pos 6)) (toZ-ofZ (first-end _ _ l .fits)) in
-    let high = c .before .before .before .before .before .before .before .before .before .raised2 .ensures ∙ ap (λ (v : ℤ). natAbs (v +ℤ pos 6)) (toZ-ofZ (last-end _ _ l .fits)) in
-    rw (c .before .before .before .before .before .before .before .before .before .before .before .before .before .before .before .chosen .ensures, c .before .before .before .before .before .before .before .before .before .before .before .before .before .before .chosen2 .ensures, c .before .before .before .before .before .before .before .before .before .before .before .before .before .exponent .ensures, low, high, c .before .before .before .before .before .before .before .before .chosen3 .ensures, c .before .before .before .before .before .before .before .chosen4 .ensures) at (c .before .before .put-fields .ensures)
+    let l = legal-predictor _ _ (c .before .before .before .before .before .before .before .before .before .before .before .before .before .before .before .before .before .before .pre .0) in
+    let low = c .before .before .before .before .before .before .before .before .before .before .before .before .raised .ensures ∙ ap (λ (v : ℤ). natAbs (v +ℤ pos 6)) (toZ-ofZ (first-end _ _ l .fits)) in
+    let high = c .before .before .before .before .before .before .before .before .before .before .raised2 .ensures ∙ ap (λ (v : ℤ). natAbs (v +ℤ pos 6)) (toZ-ofZ (last-end _ _ l .fits)) in
+    rw (c .before .before .before .before .before .before .before .before .before .before .before .before .before .before .before .before .chosen .ensures, c .before .before .before .before .before .before .before .before .before .before .before .before .before .before .before .chosen2 .ensures, c .before .before .before .before .before .before .before .before .before .before .before .before .before .before .exponent .ensures, low, high, c .before .before .before .before .before .before .before .before .before .chosen3 .ensures, c .before .before .before .before .before .before .before .before .chosen4 .ensures, c .before .before .before .before .before .before .before .chosen5 .ensures) at (c .before .before .put-fields .ensures)
 
 pub write-predictor-spec : {M : Type 1} → statement M
 write-predictor-spec =
@@ -74,6 +77,7 @@ write-predictor-spec =
     raised-requires-2
     chosen-requires-3
     chosen-requires-4
+    chosen-requires-5
     sub-resolution
     slice-aggregate-put-fields
     slice-aggregate-put-fields-2

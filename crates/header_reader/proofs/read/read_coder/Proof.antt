@@ -29,11 +29,11 @@ unfolding readCoder
 read-absent c = absent coderBits (drop (c .before .before .before .args .at) (unpack (c .before .before .before .args .file .now))) _ (ends (c .before) ∙ c .if1 .taken)
 
 -- the part, once its fields are read
-seen : (c : tie.After-coder-plain) → let a = c .before .before .before .before .before .before .before .args in let l = drop (a .at) (unpack (a .file .now)) in
-    PartSeen (readCoder (a .image) l) coderBits (c .before .coder-legal .result && c .coder-plain .result) [] (c .before .before .coder-of .result) l
+seen : (c : tie.After-coder-legal) → let a = c .before .before .before .before .before .before .args in let l = drop (a .at) (unpack (a .file .now)) in
+    PartSeen (readCoder (a .image) l) coderBits (c .coder-legal .result) [] (c .before .coder-of .result) l
 seen c =
-    coder-part _ _ (c .before .before .before .coder-numbers .result) _ _ _ (ends (c .before .before .before .before .before) ∙ c .before .before .before .before .if1 .left)
-    (c .before .before .before .coder-numbers .ensures) (c .before .before .coder-of .ensures) (c .before .coder-legal .ensures) (c .coder-plain .ensures)
+    coder-part _ _ (c .before .before .coder-numbers .result) _ _ (ends (c .before .before .before .before) ∙ c .before .before .before .if1 .left)
+    (c .before .before .coder-numbers .ensures) (c .before .coder-of .ensures) (c .coder-legal .ensures)
 
 add-ends-before : tie.Need-add-ends-before
 add-ends-before c = search needs
@@ -53,9 +53,6 @@ coder-of-requires c κs = rw (c .coder-numbers .ensures) (split-lt coderWidths (
 coder-legal-requires : tie.Need-coder-legal-requires
 coder-legal-requires c κs = search needs
 
-coder-plain-requires : tie.Need-coder-plain-requires
-coder-plain-requires c κs = search needs
-
 returns-2 : tie.Need-returns-2
 returns-2 c = sym (ap coderRead (illegal (seen (c .before)) (c .if2 .taken)))
 
@@ -72,6 +69,5 @@ read-coder-spec =
     coder-numbers-requires
     coder-of-requires
     coder-legal-requires
-    coder-plain-requires
     returns-2
     returns-3)

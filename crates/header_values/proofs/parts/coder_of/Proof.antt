@@ -1,7 +1,7 @@
 -- Each field of the settings is what the definition takes from the numbers.
 use Prim.Native.Nat.{_+_}
-use Rattle.header.specs.Places.{_‼_, rescalingSize, accumulatorTableFlag}
-use Rattle.header.specs.Parts.{isOne, coderOf}
+use Rattle.header.specs.Places.{_‼_, rescalingSize, accumulatorConstant, accumulatorTableFlag}
+use Rattle.header.specs.Parts.{isOne, noConstant, coderOf}
 use borrow.Author.Needs.{needs}
 use Rattle.header_values.proofs.parts.coder_of.Statement.{statement}
 use Rattle.header_values.proofs.parts.coder_of.Tie as tie
@@ -33,14 +33,18 @@ array-read-chosen c = search needs
 chosen-requires : tie.Need-chosen-requires
 chosen-requires c κs = search needs
 
+array-read-t24 : tie.Need-array-read-t24
+array-read-t24 c = search needs
+
 returns : tie.Need-returns
 unfolding coderOf
 returns c = λ i. record {
   unary = c .before .before .unwrapped .ensures i;
   rescaling = c .before .before .before .args .t1 ‼ rescalingSize + 4;
   initial = c .before .unwrapped2 .ensures i;
-  tabled = isOne (c .before .before .before .args .t1 ‼ accumulatorTableFlag);
+  tabled = noConstant (c .before .before .before .args .t1 ‼ accumulatorConstant);
   constant = c .chosen .ensures i;
+  k_in_file = isOne (c .before .before .before .args .t1 ‼ accumulatorTableFlag);
 }
 
 pub coder-of-spec : {M : Type 1} → statement M
@@ -56,4 +60,5 @@ coder-of-spec =
     unwrapped-requires-2
     array-read-chosen
     chosen-requires
+    array-read-t24
     returns)

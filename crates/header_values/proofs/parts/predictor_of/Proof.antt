@@ -1,7 +1,7 @@
 -- Each field of the settings is what the definition takes from the numbers; a number less 6 fits.
 use Prim.Native.Nat.{_+_}
 use native.Mathlib.Omega.{arith}
-use Rattle.header.specs.Places.{_‼_, predictionBands, predictionMode, localSumType, weightResolution, initialExponent, finalExponent, weightMethod}
+use Rattle.header.specs.Places.{_‼_, predictionBands, predictionMode, localSumType, weightResolution, initialExponent, finalExponent, weightMethod, weightTableFlag}
 use Rattle.header.specs.Parts.{isOne, predictorOf}
 use Rattle.header.proofs.Signs.{lowered}
 use borrow.Author.Needs.{needs}
@@ -65,6 +65,9 @@ array-read-chosen c = search needs
 chosen-requires : tie.Need-chosen-requires
 chosen-requires c κs = search needs
 
+array-read-t46 : tie.Need-array-read-t46
+array-read-t46 c = search needs
+
 returns : tie.Need-returns
 unfolding predictorOf
 returns c =
@@ -80,6 +83,7 @@ returns c =
       vmax = lowered (v ‼ finalExponent) (omega arith) .is i;
       custom = isOne (v ‼ weightMethod);
       precision = c .chosen .ensures i;
+      weights_in_file = isOne (v ‼ weightTableFlag);
     }
 
 pub predictor-of-spec : {M : Type 1} → statement M
@@ -105,4 +109,5 @@ predictor-of-spec =
     sub-t39
     array-read-chosen
     chosen-requires
+    array-read-t46
     returns)

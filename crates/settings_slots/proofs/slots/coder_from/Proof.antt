@@ -32,6 +32,7 @@ returns c =
       initial = c .before .slot-number3 .ensures i;
       tabled = c .before .before .before .before .slot-set .ensures i;
       constant = k i;
+      k_in_file = c .before .before .before .before .slot-set .ensures i;
     }
 
 pub coder-from-spec : {M : Type 1} → statement M

@@ -56,6 +56,7 @@ returns c =
       vmax = most i;
       custom = c .before .before .before .before .before .before .before .before .before .slot-set .ensures i;
       precision = q i;
+      weights_in_file = c .before .before .before .before .before .before .before .before .before .slot-set .ensures i;
     }
 
 pub predictor-from-spec : {M : Type 1} → statement M
