@@ -117,27 +117,27 @@ module _ {P : Plan} {ws us : List ℤ} {s~ : ℤ} {p : Place} (q : Learning P ws
 
   pub learnt-so : (s rho : ℤ) (up : Bool) (ws1 : List ℤ) → 0 < p .t
       → rho ≡ exponentBy (P .nx) (2 ^ P .interval) (P .settings .predictor .vmin) (P .settings .predictor .vmax) (P .settings .image .depth) (P .settings .predictor .resolution) (p .t)
-      → up ≡ leZ (pos 0) (scaledError s s~) → ws1 ≡ steppedWeights (P .settings .predictor .resolution) rho up (take (count P p) us) (take (count P p) ws)
+      → up ≡ leZ (pos 0) (scaledError s s~) → ws1 ≡ steppedWeights (P .settings .predictor .resolution) (λ i. rho) up (take (count P p) us) (take (count P p) ws)
       → Learnt P ws us s~ s p (ws1 ++ drop (count P p) ws)
   unfolding nextWeights
   learnt-so s rho up ws1 later er eu ew =
       let Ω = S .predictor .resolution in
-      let wl : length ws1 ≡ n = ap length ew ∙ steppedWeights-length Ω rho up (take n us) (take n ws) (us-long ∙ sym ws-long) ∙ ws-long in
+      let wl : length ws1 ≡ n = ap length ew ∙ steppedWeights-length Ω (λ i. rho) up (take n us) (take n ws) (us-long ∙ sym ws-long) ∙ ws-long in
       let tk : take n (ws1 ++ drop n ws) ≡ ws1 = take-at ws1 (drop n ws) n wl in
       let er′ = exponent-is (q .plan) (p .t) er in
       let fine : Ω + 2 ≤ 21 = omega (arith, legal (q .plan) .predictor .resolution-most) in
       let wide : 2 ^ (Ω + 2) ≤ 2 ^ 21 = pow-mono fine in
       record {
-        weights = tk ∙ ew ∙ ap₂ (λ (r : ℤ) (u : Bool). steppedWeights Ω r u (take n us) (take n ws)) er′ eu ∙ sym (learnt-later S s s~ (take n us) (take n ws) (p .t) later);
+        weights = tk ∙ ew ∙ ap₂ (λ (r : ℤ) (u : Bool). steppedWeights Ω (λ i. r) u (take n us) (take n ws)) er′ eu ∙ sym (learnt-later S s s~ (take n us) (take n ws) (p .t) later);
         fit = record {
           long = length-append ws1 (drop n ws) ∙ rw (length-drop, wl) (let l = q .fit .long in let f = n-few in omega arith);
-          small = rw (tk, ew) (each-map (InWeights Ω) (Size (2 ^ 21)) (λ w k. let m = weight-size Ω w k in omega arith) _ (steppedWeights-range Ω rho up (take n us) (take n ws)));
+          small = rw (tk, ew) (each-map (InWeights Ω) (Size (2 ^ 21)) (λ w k. let m = weight-size Ω w k in omega arith) _ (steppedWeights-range Ω (λ i. rho) up (take n us) (take n ws)));
         };
       }
 
   pub learnt-by : (m : ℕ) → m ≡ count P p → (s rho : ℤ) (up : Bool) (ws1 : List ℤ) → 0 < p .t
       → rho ≡ exponentBy (P .nx) (2 ^ P .interval) (P .settings .predictor .vmin) (P .settings .predictor .vmax) (P .settings .image .depth) (P .settings .predictor .resolution) (p .t)
-      → up ≡ leZ (pos 0) (scaledError s s~) → ws1 ≡ steppedWeights (P .settings .predictor .resolution) rho up (take m us) (take m ws)
+      → up ≡ leZ (pos 0) (scaledError s s~) → ws1 ≡ steppedWeights (P .settings .predictor .resolution) (λ i. rho) up (take m us) (take m ws)
       → Learnt P ws us s~ s p (ws1 ++ drop m ws)
   learnt-by m em s rho up ws1 later er eu ew = rw em (learnt-so s rho up ws1 later er eu (rw em at ew))
 

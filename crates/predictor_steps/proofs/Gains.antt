@@ -43,7 +43,7 @@ left-more w w₀ i r l k p = getD-set-other w i k r (pos 0) (λ q. omega arith) 
 
 module _ (o : ℕ) (rho : ℤ) (up : Bool) where
   stepped-at : (us ws : List ℤ) → length us ≡ length ws → (k : ℕ) → k < length ws
-      → getD (steppedWeights o rho up us ws) k (pos 0) ≡ weightStep o rho up (getD us k (pos 0)) (getD ws k (pos 0))
+      → getD (steppedWeights o (λ i. rho) up us ws) k (pos 0) ≡ weightStep o rho up (getD us k (pos 0)) (getD ws k (pos 0))
   unfolding steppedWeights
   stepped-at us [] e k p = absurd (omega arith)
   stepped-at [] (w ∷ ws) e k p = absurd (omega arith)
@@ -52,7 +52,7 @@ module _ (o : ℕ) (rho : ℤ) (up : Bool) where
 
   pub stepped-are : (us ws ws′ : List ℤ) → length us ≡ length ws → length ws′ ≡ length ws
       → ((k : ℕ) → k < length ws → getD ws′ k (pos 0) ≡ weightStep o rho up (getD us k (pos 0))
-      (getD ws k (pos 0))) → ws′ ≡ steppedWeights o rho up us ws
+      (getD ws k (pos 0))) → ws′ ≡ steppedWeights o (λ i. rho) up us ws
   stepped-are us ws ws′ e l h =
-      ext-getD (pos 0) ws′ (steppedWeights o rho up us ws) (l ∙ sym (steppedWeights-length o rho up us ws e))
+      ext-getD (pos 0) ws′ (steppedWeights o (λ i. rho) up us ws) (l ∙ sym (steppedWeights-length o (λ i. rho) up us ws e))
       (λ k p. h k (omega arith) ∙ sym (stepped-at us ws e k (omega arith)))

@@ -38,7 +38,7 @@ fn weight_step(w: i32, u: i32, rho: i32, up: bool, resolution: u32) -> i32
 // The step of all weights.
 pub fn step_weights(ws: &mut [i32], us: &[i32], rho: i32, up: bool, resolution: u32)
     requires { ⌜ Stepping (now ws) (now us) rho resolution ⌝ }
-    ensures { λ r. ⌜ now (ws .exit) ≡ steppedWeights resolution rho up (now (us .entry)) (now (ws .entry)) ⌝ }
+    ensures { λ r. ⌜ now (ws .exit) ≡ steppedWeights resolution (λ i. rho) up (now (us .entry)) (now (ws .entry)) ⌝ }
 {
     let mut i = 0;
     while i < ws.len() {
