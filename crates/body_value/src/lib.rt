@@ -1,5 +1,7 @@
 // One value of one band: the predictor's half and the coder's half, both ways. Neither sees the other's slots.
 // And what a value stands on: the plan of the settings, and the band's slots begun.
+#![tactic(auto)]
+
 pub mod band;
 pub mod coding;
 pub mod plan;
@@ -9,7 +11,7 @@ pub mod value;
 use refusals::Refusal;
 
 // Value t of band z, in column x.
-#[derive(Drop)]
+#[derive(Clone, Copy)]
 pub struct Place {
     pub z: usize,
     pub t: usize,
@@ -17,14 +19,14 @@ pub struct Place {
 }
 
 // A position in a file, in bits, and the rank of the value that stands there.
-#[derive(Drop)]
+#[derive(Clone, Copy)]
 pub struct Cursor {
     pub at: usize,
     pub rank: u64,
 }
 
 // Where a reader stands behind what it read, or why it stops.
-#[derive(Drop)]
+#[derive(Clone, Copy)]
 pub enum Step {
     On(Cursor),
     Refused(Refusal),

@@ -6,7 +6,7 @@ ghost use Rattle.body_value.specs.Plan.{halvings, plan_of};
 use settings::Settings;
 
 // The settings, the sizes of a row and of a band, the samples' range, and the exponent of the interval.
-#[derive(Drop)]
+#[derive(Clone, Copy)]
 pub struct Plan {
     pub settings: Settings,
     pub nx: usize,

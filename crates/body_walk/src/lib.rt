@@ -1,4 +1,6 @@
 // The body, written and read: one walk over the rows in their coding order, each way (5.4).
+#![tactic(auto)]
+
 pub mod begin;
 pub mod reader;
 pub mod rows;

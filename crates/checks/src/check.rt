@@ -38,7 +38,7 @@ pub fn check_pack(s: Settings, tables: &[i32], samples: &[i32], scratch: usize) 
     if !tables_legal(s, tables) {
         return Checked::Refused(Refusal::IllegalSetting);
     }
-    let first = first_out_lem(s.image, samples);
+    let first = first_out(s.image, samples);
     if first < samples.len() {
         return Checked::Refused(Refusal::SampleOutOfRange(first as u64));
     }

@@ -7,7 +7,7 @@ ghost use Rattle.closing.specs.Ending.{end_of};
 use bitstream::read::window;
 
 // What stands behind the body.
-#[derive(Drop)]
+#[derive(Clone, Copy)]
 pub enum Ending {
     Whole,
     TooShort,

@@ -21,26 +21,26 @@ use settings::legal::{coder_legal, image_legal, limited, predictor_legal};
 use settings::{Coder, Image, Predictor, Settings};
 
 // What a part answers: its settings, or why not.
-#[derive(Drop)]
+#[derive(Clone, Copy)]
 pub enum ImageRead {
     Image(Image),
     Refused(Refusal),
 }
 
-#[derive(Drop)]
+#[derive(Clone, Copy)]
 pub enum PredictorRead {
     Predictor(Predictor),
     Refused(Refusal),
 }
 
-#[derive(Drop)]
+#[derive(Clone, Copy)]
 pub enum CoderRead {
     Coder(Coder),
     Refused(Refusal),
 }
 
 // The settings and the bit behind the header, or why not.
-#[derive(Drop)]
+#[derive(Clone, Copy)]
 pub enum HeaderRead {
     Header(Settings, usize),
     Refused(Refusal),

@@ -2,6 +2,8 @@
 // each Γ·2^k, where k changes; for depths whose D − 2 is below, at and above every such k. A line for each counter has the hash of
 // its k. `stdout` is written by tools/feeds: the independent program tries k upwards.
 // Nothing here is proved to be right, only to be safe: sums that are wrong give lines that differ.
+#![tactic(auto)]
+
 use coder::Statistics;
 use coder::selection::code_parameter;
 use replay_areas::hash::word;

@@ -4,7 +4,7 @@ ghost use Rattle.predictor.specs.LocalSum.{position_at};
 ghost use Rattle.predictor_sums.specs.Fetch.{Fetching, fetched, neighbours_of, position_of};
 
 // The samples before a place in the directions named; 0 where its position has none.
-#[derive(Drop)]
+#[derive(Clone, Copy)]
 pub struct Neighbours {
     pub north: i32,
     pub west: i32,
@@ -13,7 +13,7 @@ pub struct Neighbours {
 }
 
 // Where a place stands: in the first row, the first column, the last column.
-#[derive(Drop)]
+#[derive(Clone, Copy)]
 pub struct Position {
     pub first_row: bool,
     pub first_column: bool,

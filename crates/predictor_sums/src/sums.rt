@@ -11,7 +11,7 @@ use super::neighbours::{Neighbours, Position, fetch, position_at};
 use settings::Settings;
 
 // Differences to the north, the west and the north-west.
-#[derive(Drop)]
+#[derive(Clone, Copy)]
 pub struct Directions {
     pub north: i32,
     pub west: i32,
@@ -19,7 +19,7 @@ pub struct Directions {
 }
 
 // How samples lie, in rows of nx and bands of area, and whether sums go by columns.
-#[derive(Drop)]
+#[derive(Clone, Copy)]
 pub struct Grid {
     pub nx: usize,
     pub area: usize,

@@ -1,8 +1,10 @@
 // Why a call says no: the refusals of documents 01 and 02, and the number and value that each is returned as.
+#![tactic(auto)]
+
 pub mod numbers;
 
 // The reasons in the order of their numbers, 1 to 18; the value stands beside a reason where one is returned with it.
-#[derive(Drop)]
+#[derive(Clone, Copy)]
 pub enum Refusal {
     IllegalSetting,
     SampleOutOfRange(u64),
@@ -25,14 +27,14 @@ pub enum Refusal {
 }
 
 // What a list of tests answers.
-#[derive(Drop)]
+#[derive(Clone, Copy)]
 pub enum Checked {
     Passed,
     Refused(Refusal),
 }
 
 // A refusal as it is told to a caller.
-#[derive(Drop)]
+#[derive(Clone, Copy)]
 pub struct Numbered {
     pub number: u64,
     pub value: u64,

@@ -23,7 +23,7 @@ use replay_areas::shared::{MOST_BYTES, MOST_IMAGE, MOST_SCRATCH, MOST_SETTINGS, 
 const TURNS: u64 = 0xFFFF_FFFF;
 
 // How many slots of each array a call is lent.
-#[derive(Drop)]
+#[derive(Clone, Copy)]
 struct Lent {
     settings: usize,
     tables: usize,

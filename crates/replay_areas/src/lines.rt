@@ -5,7 +5,7 @@ use libc::STDOUT_FILENO;
 const NUMBER_UNIT: u64 = 0x100_0000_0000_0000;
 
 // What a line tells: the word that a call answered, and the hash of every area that it may have written, but for scratch.
-#[derive(Drop)]
+#[derive(Clone, Copy)]
 pub struct Told {
     pub answer: u64,
     pub hash: u64,

@@ -5,7 +5,7 @@ use libc::STDIN_FILENO;
 const RECORD_BYTES: usize = 16;
 
 // A kind, and three numbers that each kind reads in its own way.
-#[derive(Drop)]
+#[derive(Clone, Copy)]
 pub struct Record {
     pub kind: u32,
     pub first: usize,
