@@ -16,6 +16,7 @@ fn told(number: u64, value: u64) -> Numbered
 }
 
 // One match for both, so that each reason is listed once.
+#[tactic(auto, unfolding(crate::specs::Refusals::number, crate::specs::Refusals::value))]
 pub fn numbered(r: Refusal) -> Numbered
     ensures number_value { result.number ≡ number r }
     ensures value_value { result.value ≡ value r }
