@@ -3,7 +3,7 @@ use Rattle.std.specs.Prelude.{◌≡◌, refl, ◌⊎◌, Bool, true, false, not
 use Rattle.std.proofs.Common.{sym, ◌∙◌, append_assoc, zero-add, mod-eq_of_lt, mul-add, mul-le-mul_left, arith, length-append, length-drop, take_at, drop_at, drop-drop, length-take-le, pow_pos}
 use Rattle.std.proofs.Math.Path.{ap}
 use Rattle.std.proofs.Math.Logic.{inl, inr, ⊎_elim}
-use Rattle.std.proofs.Math.Bool.{and_true, or_true, and-eq-true_iff}
+use Rattle.std.proofs.Math.Bool.{and-true, or-true, and-eq-true_iff}
 use borrow.Author.Tests.{ltb-true, ltb-false, lt-ltb, le-ltb, ne_eqb, eqb-true}
 use Rattle.std.proofs.Math.Dec.{ltb, eqb, leb-suc-suc}
 use Rattle.std.proofs.Math.IntN.{nat_abs}
@@ -39,7 +39,7 @@ half_pos (suc H) n h = refl
 
 half_negsuc : (H n : ℕ) → 0 < H → (le_z (neg_ℤ (pos H)) (negsuc n) && lt_z (negsuc n) (pos H)) ≡ ltb n H
 half_negsuc zero n h = absurd (omega arith)
-half_negsuc (suc H) n h = and_true (leb n H) ∙ sym (leb-suc-suc n H)
+half_negsuc (suc H) n h = and-true (leb n H) ∙ sym (leb-suc-suc n H)
 
 weight_pos : (q n : ℕ) → weight_legal q (pos n) ≡ ltb n (2 ^ (q - 1))
 unfolding weight_legal
@@ -197,7 +197,7 @@ module _ (S : Settings) (z : ℕ) where
 
   pub used_accumulator : S.coder.tabled ≡ true → used S z parameter_slot ≡ true
   unfolding used
-  used_accumulator t = rw (t, or_true)
+  used_accumulator t = rw (t, or-true)
 
   -- a slot used holds a weight, or it holds k'
   pub used_cases : (i : ℕ) → used S z i ≡ true → ((S.predictor.custom ≡ true) × (i < component_count S.predictor z)) ⊎ ((S.coder.tabled ≡ true) × (i ≡ parameter_slot))

@@ -1,0 +1,79 @@
+-- The candidate is the definition's k or one more, so that the loop, which falls with their difference, takes at most one step.
+use mathlib.Core.Path.{◌≡◌, ◌∙◌}
+use mathlib.Core.Logic.{⊎_elim}
+use Prim.Native.Nat.{◌+◌, ◌-◌, ◌<◌, ◌≤◌}
+use native.Mathlib.Omega.{arith}
+use lib.Count.{count_leading_zeros}
+use Rattle.coder.specs.Candidate.{candidate, candidate_fits, candidate_most, candidate_least}
+use Rattle.coder.specs.Statistics.{largest}
+use Rattle.coder.specs.StatisticsLaws.{parameter_most}
+use Rattle.coder.proofs.Parameters.{bound, parameter_none, parameter_largest, parameter_of_none, fewer_zeros, shift_lt, found, missed}
+use borrow.Author.Rules.{rules}
+use Rattle.coder.proofs.selection.code_parameter.Goals as goal
+
+pub returns-then-sum-count : goal.returns-then-sum-count
+returns-then-sum-count c =
+    let a = c.args in
+    parameter_none a.depth a.s (omega arith)
+
+pub returns-then-depth-le2 : goal.returns-then-depth-le2
+returns-then-depth-le2 c =
+    let a = c.args in
+    let m = parameter_most a.depth a.s in
+    omega arith
+
+pub returns-then-count-eq0 : goal.returns-then-count-eq0
+returns-then-count-eq0 c =
+    let a = c.args in
+    omega (arith, parameter_of_none a.depth a.s (omega arith))
+
+pub overflow_sub-k : goal.overflow_sub-k
+overflow_sub-k c =
+    let a = c.args in
+    omega (arith, fewer_zeros 64 a.s.count (bound a.s) (omega arith) (omega arith))
+
+-- what the code has when it comes to the loop
+candidate-is : (c : lts.Joined4 reads.Pre reads.Post invariant-loop decreases-loop) →
+    let a = c.before.before.before.before.before.before.args in
+    c.if4.k ≡ candidate 64 (a.depth - 2) a.s.count (bound a.s)
+unfolding candidate
+candidate-is c = ⊎_elim (λ w. omega arith) (λ w. omega arith) c.if4.branch
+
+pub loop-k-init : goal.loop-k-init
+loop-k-init c =
+    let a = c.args in
+    let e = candidate-is c in
+    let m = candidate_most 64 (a.depth - 2) a.s.count (bound a.s) (omega arith) (omega arith) (omega arith) in
+    let l = candidate_least 64 (a.depth - 2) a.s.count (bound a.s) (omega arith) (omega arith) (omega arith) in
+    let f = candidate_fits 64 (a.depth - 2) a.s.count (bound a.s) in
+    (omega arith, omega arith, omega (arith, f.0), omega (arith, f.1))
+
+pub overflow_shl-count : goal.overflow_shl-count
+overflow_shl-count c =
+    let a = c.args in
+    shift_lt 64 (a.depth - 2) a.s.count (bound a.s) c.loop-k.k (omega arith) (omega arith) c.loop-k.invariant.3
+
+-- where the test fails, k is above the largest
+above : (c : lts.After-row-known reads.Pre reads.Post invariant-loop decreases-loop) →
+    let a = c.before.before.before.before.before.before.before.before.before.args in
+    largest (a.depth - 2) a.s.count (bound a.s) < c.before.before.loop.k
+above c =
+    let a = c.before.before.before.before.before.before.before.before.before.args in
+    let v = c.before.before.loop in
+    missed 64 (a.depth - 2) a.s.count (bound a.s) v.k (omega arith) (omega arith) v.invariant.3 (omega arith) v.invariant.0 (omega arith)
+
+pub overflow_sub-k-in-loop-k : goal.overflow_sub-k-in-loop-k
+overflow_sub-k-in-loop-k c = omega (arith, above c)
+
+pub loop-k-smaller : goal.loop-k-smaller
+loop-k-smaller c = omega (arith, above c)
+
+pub loop-k-preserved : goal.loop-k-preserved
+loop-k-preserved c = let v = c.loop-k.invariant in (omega (arith, above c), omega arith, omega arith, omega arith)
+
+pub returns : goal.returns
+returns c =
+    let a = c.args in
+    let v = c.loop-k in
+    found 64 (a.depth - 2) a.s.count (bound a.s) v.k (omega arith) (omega arith) v.invariant.3 v.invariant.2 v.invariant.0 (omega arith)
+    ∙ parameter_largest a.depth a.s

@@ -1,0 +1,21 @@
+-- Legal settings have few components, of few bits.
+use mathlib.Core.Path.{ap}
+use Prim.Native.Nat.{ℕ, ◌*◌}
+use native.Mathlib.Omega.{arith}
+use Rattle.header.specs.SizeLaws.{bits_most, precision_most}
+use Rattle.settings.specs.LegalLaws.{legal_predictor}
+use borrow.Author.Rules.{rules}
+use Rattle.header.proofs.sizes.weight_bits.Goals as goal
+
+pub components_before-requires : goal.components_before-requires
+components_before-requires c = ((legal_predictor _ _ c.requires.0).bands_most, omega arith)
+
+pub overflow_mul-result : goal.overflow_mul-result
+overflow_mul-result c = omega (arith, bits_most c.args.p.precision c.components_before.result (precision_most _ _ c.requires.0 c.requires.2) (omega arith))
+
+pub returns : goal.returns
+returns c =
+    let s = c in (
+      ap (λ (n : ℕ). c.args.p.precision * n) c.components_before.ensures.0,
+      bits_most c.args.p.precision c.components_before.result (precision_most _ _ c.requires.0 c.requires.2) (omega arith),
+    )

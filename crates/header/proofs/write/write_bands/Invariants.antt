@@ -1,0 +1,16 @@
+-- Each turn puts the weights of the next band.
+use mathlib.Core.Path.{◌≡◌, refl, sym, ap, ◌∙◌}
+use Prim.Native.Nat.{ℕ, ◌*◌, ◌-◌}
+use native.Mathlib.Omega.{arith}
+use Rattle.header.proofs.Joins.{Joins, joins_begin, joins_more, joins_all}
+use Rattle.header.proofs.WriteLaws.{facts, weight_bits_at, narrow, band_most}
+use Rattle.header.specs.Tables.{weight_table}
+use Rattle.settings.specs.Lists.{join}
+use Rattle.settings.specs.Tables.{component_count}
+use Rattle.header.proofs.write.write_bands.Given as goal
+
+abbrev pub invariant-loop-z : goal.invariant-loop-z
+invariant-loop-z l = Joins (λ y. join (weight_bits_at l.s.predictor.precision l.tables y) 0 (component_count l.s.predictor y)) (22 * 18) l.bands l.initial.tail l.initial.out l.z l.tail l.out
+
+abbrev pub decreases-loop-z : goal.decreases-loop-z
+decreases-loop-z l = l.bands - l.z
