@@ -10,6 +10,7 @@ use Rattle.coder.specs.StatisticsLaws.{parameter_most}
 use Rattle.coder.proofs.Parameters.{bound, parameter_none, parameter_largest, parameter_of_none, fewer_zeros, shift_lt, found, missed}
 use borrow.Author.Rules.{rules}
 use Rattle.coder.proofs.selection.code_parameter.Goals as goal
+use Rattle.coder.proofs.selection.code_parameter.Goals.{then-most-k, else-most-k}
 
 pub returns-then-sum-count : goal.returns-then-sum-count
 returns-then-sum-count c =
@@ -32,17 +33,14 @@ overflow_sub-k c =
     let a = c.args in
     omega (arith, fewer_zeros 64 a.s.count (bound a.s) (omega arith) (omega arith))
 
--- what the code has when it comes to the loop
-candidate-is : (c : lts.Joined4 reads.Pre reads.Post invariant-loop decreases-loop) →
-    let a = c.before.before.before.before.before.before.args in
-    c.if4.k ≡ candidate 64 (a.depth - 2) a.s.count (bound a.s)
-unfolding candidate
-candidate-is c = ⊎_elim (λ w. omega arith) (λ w. omega arith) c.if4.branch
-
 pub loop-k-init : goal.loop-k-init
+unfolding candidate
 loop-k-init c =
+    let candidate-is : let a = c.args in
+    c.if-most-k.k ≡ candidate 64 (a.depth - 2) a.s.count (bound a.s) =
+      elim c.if-most-k.branch [ then-most-k w ↦ omega arith | else-most-k w ↦ omega arith ] in
     let a = c.args in
-    let e = candidate-is c in
+    let e = candidate-is in
     let m = candidate_most 64 (a.depth - 2) a.s.count (bound a.s) (omega arith) (omega arith) (omega arith) in
     let l = candidate_least 64 (a.depth - 2) a.s.count (bound a.s) (omega arith) (omega arith) (omega arith) in
     let f = candidate_fits 64 (a.depth - 2) a.s.count (bound a.s) in
@@ -53,23 +51,32 @@ overflow_shl-count c =
     let a = c.args in
     shift_lt 64 (a.depth - 2) a.s.count (bound a.s) c.loop-k.k (omega arith) (omega arith) c.loop-k.invariant.3
 
--- where the test fails, k is above the largest
-above : (c : lts.After-row-known reads.Pre reads.Post invariant-loop decreases-loop) →
-    let a = c.before.before.before.before.before.before.before.before.before.args in
-    largest (a.depth - 2) a.s.count (bound a.s) < c.before.before.loop.k
-above c =
-    let a = c.before.before.before.before.before.before.before.before.before.args in
-    let v = c.before.before.loop in
-    missed 64 (a.depth - 2) a.s.count (bound a.s) v.k (omega arith) (omega arith) v.invariant.3 (omega arith) v.invariant.0 (omega arith)
-
 pub overflow_sub-k-in-loop-k : goal.overflow_sub-k-in-loop-k
-overflow_sub-k-in-loop-k c = omega (arith, above c)
+overflow_sub-k-in-loop-k c =
+    let above : let a = c.args in
+    largest (a.depth - 2) a.s.count (bound a.s) < c.loop-k.k =
+      let a = c.args in
+      let v = c.loop-k in
+      missed 64 (a.depth - 2) a.s.count (bound a.s) v.k (omega arith) (omega arith) v.invariant.3 (omega arith) v.invariant.0 (omega arith) in
+    omega (arith, above)
 
 pub loop-k-smaller : goal.loop-k-smaller
-loop-k-smaller c = omega (arith, above c)
+loop-k-smaller c =
+    let above : let a = c.args in
+    largest (a.depth - 2) a.s.count (bound a.s) < c.loop-k.k =
+      let a = c.args in
+      let v = c.loop-k in
+      missed 64 (a.depth - 2) a.s.count (bound a.s) v.k (omega arith) (omega arith) v.invariant.3 (omega arith) v.invariant.0 (omega arith) in
+    omega (arith, above)
 
 pub loop-k-preserved : goal.loop-k-preserved
-loop-k-preserved c = let v = c.loop-k.invariant in (omega (arith, above c), omega arith, omega arith, omega arith)
+loop-k-preserved c =
+    let above : let a = c.args in
+    largest (a.depth - 2) a.s.count (bound a.s) < c.loop-k.k =
+      let a = c.args in
+      let v = c.loop-k in
+      missed 64 (a.depth - 2) a.s.count (bound a.s) v.k (omega arith) (omega arith) v.invariant.3 (omega arith) v.invariant.0 (omega arith) in
+    let v = c.loop-k.invariant in (omega (arith, above), omega arith, omega arith, omega arith)
 
 pub returns : goal.returns
 returns c =
