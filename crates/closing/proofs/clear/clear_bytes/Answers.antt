@@ -1,0 +1,29 @@
+-- Turn by turn the front is zero and the rest is as it was.
+use Rattle.closing.proofs.Clears.{fill_more}
+use mathlib.Core.Path.{◌≡◌, refl, ◌∙◌}
+use mathlib.Core.List.{List, ◌++◌, append-nil}
+use Prim.Native.Nat.{◌+◌, ◌*◌, ◌-◌, ◌<◌, ◌≤◌}
+use native.Mathlib.Omega.{arith}
+use lib.ListN.{length, take, drop, replicate, length-set, drop_of_length-le}
+use borrow.Author.Rules.{rules}
+use Rattle.closing.proofs.clear.clear_bytes.Goals as goal
+
+pub loop-at-init : goal.loop-at-init
+loop-at-init c = (omega arith, refl, refl)
+
+pub loop-at-smaller : goal.loop-at-smaller
+loop-at-smaller c = simp length-set (omega arith)
+
+pub loop-at-preserved : goal.loop-at-preserved
+loop-at-preserved c =
+    let v = c.loop-at in
+    let o = c.args.area.now in
+    (omega arith, rw v.invariant.1 (fill_more v.at 0 o (omega arith)), simp length-set v.invariant.2)
+
+pub returns : goal.returns
+returns c =
+    let v = c.loop-at in
+    let o = c.args.area.now in
+    let e : v.at ≡ length o = omega arith in
+    let l : length o ≤ v.at = omega arith in
+    v.invariant.1 ∙ rw (drop_of_length-le o l, append-nil, e)

@@ -1,0 +1,14 @@
+-- Turn by turn the front is zero and the rest is as it was.
+use Rattle.closing.proofs.Clears.{fill_more}
+use mathlib.Core.Path.{◌≡◌, refl, ◌∙◌}
+use mathlib.Core.List.{List, ◌++◌, append-nil}
+use Prim.Native.Nat.{◌+◌, ◌*◌, ◌-◌, ◌<◌, ◌≤◌}
+use native.Mathlib.Omega.{arith}
+use lib.ListN.{length, take, drop, replicate, length-set, drop_of_length-le}
+use Rattle.closing.proofs.clear.clear_bytes.Given as goal
+
+abbrev pub invariant-loop-at : goal.invariant-loop-at
+invariant-loop-at l = (l.at ≤ length l.initial.area) × (l.area ≡ replicate l.at 0 ++ drop l.at l.initial.area) × (length l.area ≡ length l.initial.area)
+
+abbrev pub decreases-loop-at : goal.decreases-loop-at
+decreases-loop-at l = length l.area - l.at

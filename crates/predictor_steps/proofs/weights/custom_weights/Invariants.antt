@@ -1,0 +1,23 @@
+-- `predictor_steps::weights::custom_weights` meets its contract: the slots passed hold the weights of their table values.
+use mathlib.Core.Path.{◌≡◌, refl, sym, ◌∙◌}
+use Prim.Native.Nat.{ℕ, ◌+◌, ◌-◌, ◌<◌, ◌≤◌}
+use native.Mathlib.Omega.{arith}
+use lib.ListN.{length, get_or, length-set}
+use lib.Seq.{ext_get_or}
+use lib.IntN.{ℤ, pos}
+use mir.Syntax.{w32}
+use mir.Facts.{to_z-of_z}
+use Rattle.integers.specs.Laws.{ok}
+use Rattle.settings.specs.Lists.{join, one}
+use Rattle.settings.specs.ListLaws.{length_ones, get_or_ones}
+use Rattle.predictor.specs.Weights.{custom_weight}
+use Rattle.predictor.specs.Each.{done_more}
+use Rattle.predictor_steps.proofs.weights.custom_weights.Given as goal
+
+abbrev pub invariant-loop-i : goal.invariant-loop-i
+invariant-loop-i l =
+    (l.i ≤ length l.ws) × (length l.ws ≡ length l.initial.ws)
+    × ((k : ℕ) → k < l.i → get_or l.ws k (pos 0) ≡ custom_weight l.resolution l.precision (get_or l.tables (l.from + k) (pos 0)))
+
+abbrev pub decreases-loop-i : goal.decreases-loop-i
+decreases-loop-i l = length l.ws - l.i

@@ -1,0 +1,23 @@
+-- `predictor_steps::weights::step_weights` meets its contract: the slots passed are stepped, and the others are as they were.
+use mathlib.Core.Path.{◌≡◌, refl, sym, ◌∙◌, ap, ap₂}
+use Prim.Native.Nat.{ℕ, ◌-◌, ◌<◌, ◌≤◌}
+use native.Mathlib.Omega.{arith}
+use lib.ListN.{length, get_or, length-set}
+use lib.IntN.{ℤ, pos}
+use mir.Syntax.{w32}
+use mir.Val.{to_z, of_z}
+use mir.Facts.{to_z-of_z}
+use Rattle.integers.specs.Laws.{ok}
+use Rattle.predictor.specs.WeightUpdate.{weight_step}
+use Rattle.predictor.specs.Each.{done_more}
+use Rattle.predictor_steps.proofs.Gains.{left_more, stepped_are}
+use Rattle.predictor_steps.proofs.weights.step_weights.Given as goal
+
+abbrev pub invariant-loop-i : goal.invariant-loop-i
+invariant-loop-i l =
+    (l.i ≤ length l.ws) × (length l.ws ≡ length l.initial.ws)
+    × ((k : ℕ) → k < l.i → get_or l.ws k (pos 0) ≡ weight_step l.resolution l.rho l.up (get_or l.us k (pos 0)) (get_or l.initial.ws k (pos 0)))
+    × ((k : ℕ) → l.i ≤ k → get_or l.ws k (pos 0) ≡ get_or l.initial.ws k (pos 0))
+
+abbrev pub decreases-loop-i : goal.decreases-loop-i
+decreases-loop-i l = length l.ws - l.i
