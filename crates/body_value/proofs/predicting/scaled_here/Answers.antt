@@ -1,0 +1,41 @@
+-- The first value by the band before, a later one by its components.
+use mathlib.Core.Path.{◌≡◌, sym}
+use native.Mathlib.Omega.{arith}
+use mir.Syntax.{w64}
+use mir.Val.{SFits}
+use mir.Facts.{to_z-of_z}
+use Rattle.integers.specs.Laws.{ok}
+use Rattle.body_value.proofs.Plans.{low_fits, middle_fits, high_fits}
+use Rattle.body_value.proofs.Predicts.{few, held_long, us_taken, terms, first_is, later_is}
+use borrow.Author.Rules.{rules}
+use Rattle.body_value.proofs.predicting.scaled_here.Goals as goal
+
+pub returns-then-place-eq0 : goal.returns-then-place-eq0
+returns-then-place-eq0 c =
+    rw (to_z-of_z (ok w64 c.first_prediction.result c.first_prediction.type_inv)) (first_is c.requires.0 c.args.us.now c.first_prediction.result c.if-place-eq0.true c.requires.1 c.first_prediction.ensures)
+
+pub slice_bounds-predict-end : goal.slice_bounds-predict-end
+slice_bounds-predict-end c =
+    rw c.component_count-n.ensures (sym (held_long c.requires.0))
+
+pub slice_bounds-predict-end-2 : goal.slice_bounds-predict-end-2
+slice_bounds-predict-end-2 c =
+    let e = c.component_count-n.ensures in let f = few c.requires.0.plan 0 c.args.place in let l = c.differences-sum.ensures.long in omega arith
+
+pub slice_bounds-predict-end-3 : goal.slice_bounds-predict-end-3
+slice_bounds-predict-end-3 c =
+    rw c.component_count-n.ensures (sym (us_taken c.requires.0 _ c.differences-sum.ensures.long))
+
+pub predict-requires : goal.predict-requires
+predict-requires c =
+    let sum_fits : SFits w64 c.differences-sum.result =
+      ok w64 c.differences-sum.result c.differences-sum.type_inv in
+    rw c.component_count-n.ensures (simp (to_z-of_z, sum_fits, middle_fits (c.requires.0.plan)) (terms c.requires.0 _ _ c.differences-sum.ensures.components_are c.differences-sum.ensures.sum_is))
+
+pub returns : goal.returns
+returns c =
+    let sum_fits : SFits w64 c.differences-sum.result =
+      ok w64 c.differences-sum.result c.differences-sum.type_inv in
+    let u = c.requires.0.plan in
+    rw (to_z-of_z (ok w64 c.predict.result c.predict.type_inv))
+    (later_is c.requires.0 _ _ _ (let n = c.if-place-eq0.false in omega arith) c.differences-sum.ensures (rw c.component_count-n.ensures at (simp (to_z-of_z, sum_fits, low_fits u, middle_fits u, high_fits u) at c.predict.ensures)))

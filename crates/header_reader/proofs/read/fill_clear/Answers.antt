@@ -1,0 +1,15 @@
+-- No bits are zero, and others are a number that the test compares.
+use mathlib.Core.Path.{◌≡◌, sym, ap}
+use Prim.Native.Nat.{ℕ}
+use lib.Dec.{eqb}
+use lib.ListN.{take, drop}
+use Rattle.bitstream.specs.Stream.{number, unpack}
+use borrow.Author.Rules.{rules}
+use Rattle.header_reader.proofs.read.fill_clear.Goals as goal
+
+pub returns-then-width-eq0 : goal.returns-then-width-eq0
+unfolding number
+returns-then-width-eq0 c = rw c.if-width-eq0.true
+
+pub returns : goal.returns
+returns c = ap (λ (n : ℕ). eqb n 0) c.number_at.ensures
