@@ -1,0 +1,17 @@
+-- Band after band, each from its tables.
+use mathlib.Core.Path.{◌≡◌, refl, ◌∙◌}
+use Prim.Native.Nat.{◌+◌, ◌-◌, ◌*◌, ◌≤◌}
+use native.Mathlib.Omega.{arith}
+use lib.ListN.{length}
+use borrow.Rule.Slice.PartMut.{same_len_mid}
+use Rattle.body_value.proofs.Plans.{legal}
+use Rattle.body_walk.specs.Begun.{Begun}
+use Rattle.body_walk.proofs.Bodies.{startable, begun_none, begun_more, begun_as}
+use Rattle.body_walk.proofs.begin.begin_bands.Given as goal
+
+abbrev pub invariant-loop-z : goal.invariant-loop-z
+invariant-loop-z l =
+    Begun l.p l.tables l.scratch l.z × (l.z ≤ l.nz) × (length l.scratch ≡ length l.initial.scratch)
+
+abbrev pub decreases-loop-z : goal.decreases-loop-z
+decreases-loop-z l = l.nz - l.z

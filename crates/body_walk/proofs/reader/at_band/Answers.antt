@@ -1,0 +1,17 @@
+-- The band’s slots are lent to the value and come back.
+use Rattle.bitstream.specs.Stream.{unpack}
+use Rattle.body_walk.proofs.Takes.{reading, stepped}
+use borrow.Author.Rules.{rules}
+use Rattle.body_walk.proofs.reader.at_band.Goals as goal
+
+pub read_value-requires : goal.read_value-requires
+read_value-requires c =
+    let at-start = c in
+    reading c.requires.0 c.requires.1
+
+pub returns : goal.returns
+returns c =
+    let at-read-value = c in
+    let at-start = c in
+    let r = c.read_value in
+    stepped c.requires.0 c.requires.1 (unpack c.args.file.now) r.new.image r.new.slots r.result r.ensures

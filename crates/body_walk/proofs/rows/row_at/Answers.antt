@@ -1,0 +1,77 @@
+-- Quotient and remainder of the number are the row’s.
+use mathlib.Core.Path.{◌≡◌, refl, sym, ◌∙◌, ap}
+use Prim.Native.Nat.{ℕ, ◌+◌, ◌-◌, ◌*◌, ◌/◌, ◌%◌, ◌^◌, ◌<◌, ◌≤◌, min}
+use native.Mathlib.Omega.{arith}
+use Rattle.body.specs.Order.{sub_frames}
+use Rattle.body_value.proofs.Plans.{legal}
+use Rattle.body_walk.proofs.Orders.{at_band, at_frame, at_frame_last, at_frame_whole, band_below, some_frames, from_below, count_bands}
+use borrow.Author.Rules.{rules}
+use Rattle.body_walk.proofs.rows.row_at.Goals as goal
+
+pub nonzero_div-z : goal.nonzero_div-z
+nonzero_div-z c =
+    let h = (legal c.requires.0).image.ny_least in omega arith
+
+pub nonzero_rem-result : goal.nonzero_rem-result
+nonzero_rem-result c =
+    let h = (legal c.requires.0).image.ny_least in omega arith
+
+pub overflow_add-result : goal.overflow_add-result
+overflow_add-result c =
+    let e = count_bands c.args.p.settings.image 0 c.if-i.true in let p = c.requires.1 in let h = band_below c.args.p.settings.image c.args.n (legal c.requires.0).image.ny_least (omega arith) in let k = (legal c.requires.0).image.nz_most in omega arith
+
+pub returns-then-i : goal.returns-then-i
+returns-then-i c =
+    sym (at_band c.args.p.settings.image c.args.n c.if-i.true)
+
+pub overflow_add-frames : goal.overflow_add-frames
+overflow_add-frames c =
+    let a = (legal c.requires.0).image.nz_most in let d = ((legal c.requires.0).image.interleaved c.if-i.false).1 in omega arith
+
+pub overflow_sub-frames : goal.overflow_sub-frames
+overflow_sub-frames c =
+    let b = ((legal c.requires.0).image.interleaved c.if-i.false).0 in omega arith
+
+pub nonzero_div-frames : goal.nonzero_div-frames
+nonzero_div-frames c =
+    let b = ((legal c.requires.0).image.interleaved c.if-i.false).0 in omega arith
+
+pub nonzero_rem-from : goal.nonzero_rem-from
+unfolding sub_frames
+nonzero_rem-from c =
+    let b = (some_frames c.args.p.settings.image c.args.n ((legal c.requires.0).image.interleaved c.if-i.false).0 (legal c.requires.0).image.nz_least) in omega arith
+
+pub overflow_mul-from : goal.overflow_mul-from
+unfolding sub_frames
+overflow_mul-from c =
+    let b = (from_below c.args.p.settings.image c.args.n ((legal c.requires.0).image.interleaved c.if-i.false).0 (legal c.requires.0).image.nz_least) in let k = (legal c.requires.0).image.nz_most in omega arith
+
+pub overflow_sub-nz : goal.overflow_sub-nz
+unfolding sub_frames
+overflow_sub-nz c =
+    let b = (from_below c.args.p.settings.image c.args.n ((legal c.requires.0).image.interleaved c.if-i.false).0 (legal c.requires.0).image.nz_least) in omega arith
+
+pub nonzero_div-result : goal.nonzero_div-result
+unfolding sub_frames
+nonzero_div-result c =
+    let b = (some_frames c.args.p.settings.image c.args.n ((legal c.requires.0).image.interleaved c.if-i.false).0 (legal c.requires.0).image.nz_least) in omega arith
+
+pub returns-then-nz-from : goal.returns-then-nz-from
+unfolding sub_frames
+returns-then-nz-from c =
+    sym (at_frame_last c.args.p.settings.image c.args.n c.if-i.false ((legal c.requires.0).image.interleaved c.if-i.false).0 (legal c.requires.0).image.nz_least c.if-nz-from.true)
+
+pub nonzero_div-result-2 : goal.nonzero_div-result-2
+unfolding sub_frames
+nonzero_div-result-2 c =
+    let b = (some_frames c.args.p.settings.image c.args.n ((legal c.requires.0).image.interleaved c.if-i.false).0 (legal c.requires.0).image.nz_least) in omega arith
+
+pub overflow_add-result-2 : goal.overflow_add-result-2
+unfolding sub_frames
+overflow_add-result-2 c =
+    let b = (from_below c.args.p.settings.image c.args.n ((legal c.requires.0).image.interleaved c.if-i.false).0 (legal c.requires.0).image.nz_least) in let k = (legal c.requires.0).image.nz_most in let l = c.if-nz-from.false in omega arith
+
+pub returns : goal.returns
+unfolding sub_frames
+returns c =
+    sym (at_frame_whole c.args.p.settings.image c.args.n c.if-i.false c.if-nz-from.false)

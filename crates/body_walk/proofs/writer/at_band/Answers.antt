@@ -1,0 +1,15 @@
+-- The band’s slots are lent to the value and come back.
+use Rattle.body_walk.proofs.Moves.{writing, wrote}
+use borrow.Author.Rules.{rules}
+use Rattle.body_walk.proofs.writer.at_band.Goals as goal
+
+pub write_value-requires : goal.write_value-requires
+write_value-requires c =
+    let at-start = c in
+    writing c.requires.0 c.requires.1
+
+pub returns : goal.returns
+returns c =
+    let at-write-value = c in
+    let at-start = c in
+    wrote c.requires.0 c.requires.1 c.write_value.ensures

@@ -1,0 +1,21 @@
+-- Columns one after the other.
+use mathlib.Core.Path.{◌≡◌, refl, sym, ◌∙◌, ap}
+use mathlib.Core.List.{List}
+use Prim.Native.Nat.{ℕ, ◌+◌, ◌-◌, ◌*◌, ◌≤◌}
+use native.Mathlib.Omega.{arith}
+use lib.ListN.{length}
+use Rattle.settings.specs.Lists.{join}
+use Rattle.body.specs.Order.{Place, column_of}
+use Rattle.body_walk.specs.Writer.{writer_at, Moved}
+use Rattle.body_walk.proofs.Loops.{part_as, ready_as, begin, turn, again}
+use Rattle.body_walk.proofs.Standings.{strip, row_small, row_places_lem}
+use Rattle.body_walk.proofs.Moves.{moving}
+use Rattle.body_walk.proofs.writer.row.Given as goal
+
+abbrev pub invariant-loop-x : goal.invariant-loop-x
+invariant-loop-x l =
+    Moved l.p l.image (writer_at l.initial.scratch l.initial.next l.initial.out) (join (λ x. column_of (l.first + x) l.from (l.to - l.from)) 0 l.x) (writer_at l.scratch l.next l.out)
+    × (l.x ≤ l.nx) × (length l.scratch ≡ length l.initial.scratch) × (length l.out ≡ length l.initial.out)
+
+abbrev pub decreases-loop-x : goal.decreases-loop-x
+decreases-loop-x l = l.nx - l.x

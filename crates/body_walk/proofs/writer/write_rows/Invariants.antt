@@ -1,0 +1,20 @@
+-- Row after row, in the order of the settings.
+use mathlib.Core.Path.{◌≡◌, refl, sym, ◌∙◌, ap}
+use Prim.Native.Nat.{◌+◌, ◌-◌, ◌≤◌}
+use native.Mathlib.Omega.{arith}
+use lib.ListN.{length}
+use Rattle.settings.specs.Lists.{join}
+use Rattle.body_walk.specs.Rows.{row_count, places_in}
+use Rattle.body_walk.specs.Writer.{writer_at, Moved}
+use Rattle.body_walk.proofs.Loops.{part_as, ready_as, begin, turn, again}
+use Rattle.body_walk.proofs.Orders.{row_in, order_is}
+use Rattle.body_walk.proofs.Moves.{moving}
+use Rattle.body_walk.proofs.writer.write_rows.Given as goal
+
+abbrev pub invariant-loop-i : goal.invariant-loop-i
+invariant-loop-i l =
+    Moved l.p l.image (writer_at l.initial.scratch l.initial.next l.initial.out) (join (places_in l.p.settings.image) 0 l.i) (writer_at l.scratch l.next l.out)
+    × (l.i ≤ l.count) × (length l.scratch ≡ length l.initial.scratch) × (length l.out ≡ length l.initial.out)
+
+abbrev pub decreases-loop-i : goal.decreases-loop-i
+decreases-loop-i l = l.count - l.i
