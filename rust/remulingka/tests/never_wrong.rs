@@ -140,6 +140,8 @@ fn links_are_followed() {
         .unwrap()
         .is_symlink());
     assert_eq!(bytes(&folder, "far/nowhere.cube")[0], 9);
+    // The prover's gate refuses a checkout with a link in it, also below the target folder.
+    fs::remove_file(folder.join("link.cube")).unwrap();
 }
 
 #[test]
