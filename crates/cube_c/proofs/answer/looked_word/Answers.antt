@@ -1,0 +1,19 @@
+-- Each arm is the definition's clause.
+use mathlib.Core.Path.{◌≡◌, ◌∙◌, sym, ap}
+use native.Mathlib.Omega.{arith}
+use Rattle.cube.specs.Answers.{opened_number, looked_value}
+use Rattle.cube_c.specs.Answer.{word_of, looked_word}
+use borrow.Author.Rules.{rules}
+use Rattle.cube_c.proofs.answer.looked_word.Goals as goal
+
+pub refusal_word-requires : goal.refusal_word-requires
+unfolding looked_value
+refusal_word-requires c = let e = ap looked_value c.in-Refused.is in omega arith
+
+pub returns-in-Settings : goal.returns-in-Settings
+unfolding looked_word opened_number looked_value word_of
+returns-in-Settings c = sym (ap looked_word c.in-Settings.is)
+
+pub returns-in-Refused : goal.returns-in-Refused
+unfolding looked_word opened_number looked_value
+returns-in-Refused c = c.refusal_word.ensures ∙ sym (ap looked_word c.in-Refused.is)
