@@ -1,4 +1,5 @@
 // The four calls for C, Rust and Python. No call requires anything: every list of slots, bytes and lengths has one answer.
+// `remulingka_c` exports them under these names.
 ghost use Rattle.cube_c.specs.Boundary.{CPacks, CLengths, COpens, CLooks};
 
 use super::answer::{looked_word, opened_word, packed_word, put_answer, refusal_word};
@@ -9,8 +10,7 @@ use refusals::{Checked, Refusal};
 use settings_slots::slots::{SLOTS, settings_from, slots_checked};
 
 // A cube into a file. The answer is the file's length, or a refusal.
-#[unsafe(no_mangle)]
-pub extern "C" fn remulingka_pack(
+pub fn remulingka_pack(
     settings: &[i32],
     tables: &[i32],
     samples: &[i32],
@@ -32,8 +32,7 @@ pub extern "C" fn remulingka_pack(
 }
 
 // The length of that file, for any output.
-#[unsafe(no_mangle)]
-pub extern "C" fn remulingka_length(
+pub fn remulingka_length(
     settings: &[i32],
     tables: &[i32],
     samples: &[i32],
@@ -48,8 +47,7 @@ pub extern "C" fn remulingka_length(
 }
 
 // A file back into a cube and its settings. The answer is the number of samples, or a refusal.
-#[unsafe(no_mangle)]
-pub extern "C" fn remulingka_open(
+pub fn remulingka_open(
     file: &[u8],
     scratch: &mut [i32],
     tables: &mut [i32],
@@ -67,8 +65,7 @@ pub extern "C" fn remulingka_open(
 }
 
 // The settings alone. The answer is 0, or a refusal.
-#[unsafe(no_mangle)]
-pub extern "C" fn remulingka_look(file: &[u8], settings: &mut [i32]) -> u64
+pub fn remulingka_look(file: &[u8], settings: &mut [i32]) -> u64
     ensures { CLooks file.now settings.old result settings.new }
 {
     if settings.len() < SLOTS {

@@ -8,6 +8,7 @@ use coder::Statistics;
 use coder::selection::code_parameter;
 use replay_areas::hash::word;
 use replay_areas::lines::{Told, line};
+use std::io::{self, BufWriter, Write};
 
 // One more than the largest counter, of γ* = 11.
 const COUNTERS: u32 = 2048;
@@ -60,17 +61,19 @@ fn sums(count: u32) -> u64 {
 }
 
 // The line of a counter.
-fn tell(count: u32) {
+fn tell(output: &mut impl Write, count: u32) -> io::Result<()> {
     let hash = sums(count);
     let told = Told {
         answer: count as u64,
         hash,
     };
-    line(b"parameter", told);
+    line(output, b"parameter", told)
 }
 
-fn main() {
+fn main(rt: HostRuntime) -> io::Result<()> {
+    let mut output = BufWriter::new(rt.alloc(), rt.stdout())?;
     for count in 1..COUNTERS {
-        tell(count);
+        tell(&mut output, count)?;
     }
+    output.flush()
 }

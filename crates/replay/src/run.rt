@@ -18,8 +18,9 @@ use replay_areas::areas::{prepare_bytes, prepare_slots};
 use replay_areas::lines::{line, over};
 use replay_areas::records::{Record, read_bytes, read_record, read_slots};
 use replay_areas::shared::{MOST_BYTES, MOST_IMAGE, MOST_SCRATCH, MOST_SETTINGS, MOST_TABLES};
+use std::io::{self, Read, Write};
 
-// No proof can know that an input ends, so turns are counted down from more than any input has.
+// No proof can know that an input ends, so turns are counted, up to more than any input has.
 const TURNS: u64 = 0xFFFF_FFFF;
 
 // How many slots of each array a call is lent.
@@ -32,7 +33,7 @@ struct Lent {
 }
 
 // The arrays of a run. They are lent as slices from here on.
-pub fn run() {
+pub fn run(input: &mut impl Read, output: &mut impl Write) -> io::Result<()> {
     let mut settings = [0i32; MOST_SETTINGS];
     let mut tables = [0i32; MOST_TABLES];
     let mut image = [0i32; MOST_IMAGE];
@@ -44,13 +45,14 @@ pub fn run() {
         image: 0,
         scratch: 0,
     };
-    let mut turns = TURNS;
-    while turns > 0 {
-        let record = read_record();
+    for _ in 0..TURNS {
+        let record = read_record(input)?;
         if record.kind == 0 {
-            return;
+            break;
         }
         lent = turn(
+            input,
+            output,
             lent,
             record,
             &mut settings,
@@ -58,13 +60,15 @@ pub fn run() {
             &mut image,
             &mut scratch,
             &mut bytes,
-        );
-        turns -= 1;
+        )?;
     }
+    Ok(())
 }
 
 // One record: what it lends, or its call and the line about it.
 fn turn(
+    input: &mut impl Read,
+    output: &mut impl Write,
     lent: Lent,
     record: Record,
     settings: &mut [i32; MOST_SETTINGS],
@@ -72,16 +76,22 @@ fn turn(
     image: &mut [i32; MOST_IMAGE],
     scratch: &mut [i32; MOST_SCRATCH],
     bytes: &mut [u8; MOST_BYTES],
-) -> Lent {
+) -> io::Result<Lent> {
     if record.kind < 10 {
-        return lend(lent, record, settings, tables, image, scratch, bytes);
+        return lend(
+            input, output, lent, record, settings, tables, image, scratch, bytes,
+        );
     }
-    call(lent, record, settings, tables, image, scratch, bytes);
-    lent
+    call(
+        output, lent, record, settings, tables, image, scratch, bytes,
+    )?;
+    Ok(lent)
 }
 
 // What is lent from this record on; the slots or bytes that it gives are read.
 fn lend(
+    input: &mut impl Read,
+    output: &mut impl Write,
     lent: Lent,
     record: Record,
     settings: &mut [i32],
@@ -89,36 +99,37 @@ fn lend(
     image: &mut [i32],
     scratch: &mut [i32],
     bytes: &mut [u8],
-) -> Lent {
+) -> io::Result<Lent> {
     let kind = record.kind;
     let count = record.first;
     let given = record.second;
     let mut next = lent;
     match kind {
         1 => {
-            read_slots(settings, given);
+            read_slots(input, settings, given)?;
             next.settings = count;
         }
         2 => {
-            read_slots(tables, given);
+            read_slots(input, tables, given)?;
             next.tables = count;
         }
         3 => {
-            read_slots(image, given);
+            read_slots(input, image, given)?;
             next.image = count;
         }
         4 => {
-            read_slots(scratch, given);
+            read_slots(input, scratch, given)?;
             next.scratch = count;
         }
-        5 => read_bytes(bytes, given),
-        _ => over(),
+        5 => read_bytes(input, bytes, given)?,
+        _ => over(output)?,
     }
-    next
+    Ok(next)
 }
 
 // A call, with one byte of the file changed; the byte is put back behind it.
 fn call(
+    output: &mut impl Write,
     lent: Lent,
     record: Record,
     settings: &mut [i32],
@@ -126,11 +137,14 @@ fn call(
     image: &mut [i32],
     scratch: &mut [i32],
     bytes: &mut [u8],
-) {
+) -> io::Result<()> {
     let place = record.first;
     let before = exchange(bytes, place, (record.second % 256) as u8);
-    parts(lent, record, settings, tables, image, scratch, bytes);
+    let told = parts(
+        output, lent, record, settings, tables, image, scratch, bytes,
+    );
     exchange(bytes, place, before);
+    told
 }
 
 // Puts a byte at a place, and answers the one that stood there.
@@ -145,6 +159,7 @@ fn exchange(bytes: &mut [u8], place: usize, byte: u8) -> u8 {
 
 // The lent part of each array.
 fn parts(
+    output: &mut impl Write,
     lent: Lent,
     record: Record,
     settings: &mut [i32],
@@ -152,63 +167,71 @@ fn parts(
     image: &mut [i32],
     scratch: &mut [i32],
     bytes: &mut [u8],
-) {
+) -> io::Result<()> {
     let listed = lent.settings;
     let tabled = lent.tables;
     let imaged = lent.image;
     let lent_scratch = lent.scratch;
     let length = record.third;
     if listed > settings.len() {
-        return over();
+        return over(output);
     }
     if tabled > tables.len() {
-        return over();
+        return over(output);
     }
     if imaged > image.len() {
-        return over();
+        return over(output);
     }
     if lent_scratch > scratch.len() {
-        return over();
+        return over(output);
     }
     if length > bytes.len() {
-        return over();
+        return over(output);
     }
     make(
+        output,
         record.kind,
         &mut settings[..listed],
         &mut tables[..tabled],
         &mut image[..imaged],
         &mut scratch[..lent_scratch],
         &mut bytes[..length],
-    );
+    )
 }
 
 // The call of a kind, on areas of just the lengths that it is to see, and its line. Those that it may write are prepared; scratch is
 // not: a call finds there what the one before it left, which must not change an answer.
 fn make(
+    output: &mut impl Write,
     kind: u32,
     settings: &mut [i32],
     tables: &mut [i32],
     image: &mut [i32],
     scratch: &mut [i32],
     bytes: &mut [u8],
-) {
+) -> io::Result<()> {
     match kind {
         11 => {
             prepare_bytes(bytes);
-            line(b"pack", pack(settings, tables, image, scratch, bytes));
+            let told = pack(settings, tables, image, scratch, bytes);
+            line(output, b"pack", told)
         }
-        12 => line(b"length", length(settings, tables, image, scratch)),
+        12 => {
+            let told = length(settings, tables, image, scratch);
+            line(output, b"length", told)
+        }
         13 => {
             prepare_slots(tables);
             prepare_slots(image);
             prepare_slots(settings);
-            line(b"open", open(bytes, scratch, tables, image, settings));
+            let told = open(bytes, scratch, tables, image, settings);
+            line(output, b"open", told)
         }
         14 => {
             prepare_slots(settings);
-            line(b"look", look(bytes, settings));
+            let told = look(bytes, settings);
+            line(output, b"look", told)
         }
-        _ => over(),
+        _ => over(output),
     }
 }

@@ -2,17 +2,9 @@
 use super::shared::{BYTE_BEFORE, SLOT_BEFORE};
 
 pub fn prepare_bytes(area: &mut [u8]) {
-    let mut i = 0;
-    while i < area.len() {
-        area[i] = BYTE_BEFORE;
-        i += 1;
-    }
+    area.fill(BYTE_BEFORE);
 }
 
 pub fn prepare_slots(area: &mut [i32]) {
-    let mut i = 0;
-    while i < area.len() {
-        area[i] = SLOT_BEFORE;
-        i += 1;
-    }
+    area.fill(SLOT_BEFORE);
 }

@@ -16,10 +16,8 @@ pub fn word(hash: u64, x: u32) -> u64 {
 // Every byte of an area.
 pub fn bytes(start: u64, area: &[u8]) -> u64 {
     let mut hash = start;
-    let mut i = 0;
-    while i < area.len() {
-        hash = byte(hash, area[i]);
-        i += 1;
+    for x in area {
+        hash = byte(hash, *x);
     }
     hash
 }
@@ -31,10 +29,8 @@ fn byte(hash: u64, x: u8) -> u64 {
 // Every slot of an area.
 pub fn slots(start: u64, area: &[i32]) -> u64 {
     let mut hash = start;
-    let mut i = 0;
-    while i < area.len() {
-        hash = word(hash, unsigned(area[i]));
-        i += 1;
+    for x in area {
+        hash = word(hash, unsigned(*x));
     }
     hash
 }

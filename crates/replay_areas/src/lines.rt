@@ -1,5 +1,5 @@
 // The line of a call: its name, the number and the value of the word that it answered, and the hash of what it was lent.
-use libc::STDOUT_FILENO;
+use std::io::{self, Write};
 
 // The number stands in the word's highest byte.
 const NUMBER_UNIT: u64 = 0x100_0000_0000_0000;
@@ -11,20 +11,15 @@ pub struct Told {
     pub hash: u64,
 }
 
-pub fn line(name: &[u8], told: Told) {
-    let answer = told.answer;
+pub fn line(output: &mut impl Write, name: &[u8], told: Told) -> io::Result<()> {
+    let number = told.answer / NUMBER_UNIT;
+    let value = told.answer % NUMBER_UNIT;
     let hash = told.hash;
-    io::write_all(STDOUT_FILENO, name);
-    io::write_all(STDOUT_FILENO, b" ");
-    io::print_decimal(STDOUT_FILENO, answer / NUMBER_UNIT);
-    io::write_all(STDOUT_FILENO, b" ");
-    io::print_decimal(STDOUT_FILENO, answer % NUMBER_UNIT);
-    io::write_all(STDOUT_FILENO, b" ");
-    io::print_hex(STDOUT_FILENO, hash, 1);
-    io::write_all(STDOUT_FILENO, b"\n");
+    output.write_all(name)?;
+    writeln!(output, " {number} {value} {hash:x}")
 }
 
 // The line of a call that does not fit this program's arrays, which is then not made. The independent program writes no such line.
-pub fn over() {
-    io::write_all(STDOUT_FILENO, b"over\n");
+pub fn over(output: &mut impl Write) -> io::Result<()> {
+    output.write_all(b"over\n")
 }
