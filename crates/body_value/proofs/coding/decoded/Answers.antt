@@ -28,7 +28,7 @@ next_statistics-new-requires c =
     let parsed : let a = c.args in
     (parse a.p.settings.image.depth a.p.settings.coder.unary (parameter a.p.settings.image.depth c.held-old.result) (drop a.at (unpack a.file.now))
     ≡ stream.ok c.in-Value.delta (drop c.in-Value.next (unpack a.file.now))) × (c.in-Value.next ≤ length (unpack a.file.now)) =
-      rw c.in-Value.is at c.get_value-found.ensures in
+    rw c.in-Value.is at c.get_value-found.ensures in
     counting c.requires.plan c.requires.fit c.held-old.ensures (delta_small c.requires c.held-old.ensures (unpack c.args.file.now) c.args.t (let n = c.if-t-eq0.false in omega arith) parsed)
 
 pub keep-requires : goal.keep-requires
@@ -36,7 +36,7 @@ keep-requires c =
     let parsed : let a = c.args in
     (parse a.p.settings.image.depth a.p.settings.coder.unary (parameter a.p.settings.image.depth c.held-old.result) (drop a.at (unpack a.file.now))
     ≡ stream.ok c.in-Value.delta (drop c.in-Value.next (unpack a.file.now))) × (c.in-Value.next ≤ length (unpack a.file.now)) =
-      rw c.in-Value.is at c.get_value-found.ensures in
+    rw c.in-Value.is at c.get_value-found.ensures in
     keeping c.requires.plan c.requires.fit c.held-old.ensures (delta_small c.requires c.held-old.ensures (unpack c.args.file.now) c.args.t (let n = c.if-t-eq0.false in omega arith) parsed) c.next_statistics-new.ensures
 
 pub returns-in-Value : goal.returns-in-Value
@@ -44,7 +44,7 @@ returns-in-Value c =
     let parsed : let a = c.args in
     (parse a.p.settings.image.depth a.p.settings.coder.unary (parameter a.p.settings.image.depth c.held-old.result) (drop a.at (unpack a.file.now))
     ≡ stream.ok c.in-Value.delta (drop c.in-Value.next (unpack a.file.now))) × (c.in-Value.next ≤ length (unpack a.file.now)) =
-      rw c.in-Value.is at c.get_value-found.ensures in
+    rw c.in-Value.is at c.get_value-found.ensures in
     later_found c.requires c.held-old.ensures (unpack c.args.file.now) c.args.t (let n = c.if-t-eq0.false in omega arith) parsed c.next_statistics-new.ensures c.keep.ensures
 
 pub returns-in-Short : goal.returns-in-Short

@@ -37,16 +37,16 @@ slice_bounds-step_weights-end-3 c =
 pub step_weights-requires : goal.step_weights-requires
 step_weights-requires c =
     let rho-fits : SFits w32 c.exponent-rho.result =
-      sz_fits (sz_abs c.exponent-rho.result c.exponent-rho.ensures.1) tt in
+    sz_fits (sz_abs c.exponent-rho.result c.exponent-rho.ensures.1) tt in
     rw (to_z-of_z rho-fits, c.component_count-n.ensures) (stepping c.requires (let n = c.if-place-eq0.false in omega arith) c.exponent-rho.ensures.1)
 
 pub returns : goal.returns
 returns c =
     let rho-fits : SFits w32 c.exponent-rho.result =
-      sz_fits (sz_abs c.exponent-rho.result c.exponent-rho.ensures.1) tt in
+    sz_fits (sz_abs c.exponent-rho.result c.exponent-rho.ensures.1) tt in
     let rho-is : let a = c.args in
     c.exponent-rho.result ≡ exponent_by a.p.nx (2 ^ a.p.interval) a.p.settings.predictor.vmin a.p.settings.predictor.vmax a.p.settings.image.depth a.p.settings.predictor.resolution a.place.t =
-      let l = legal c.requires.plan in simp (to_z-of_z, vmin_fits l, vmax_fits l) at c.exponent-rho.ensures.0 in
+    let l = legal c.requires.plan in simp (to_z-of_z, vmin_fits l, vmax_fits l) at c.exponent-rho.ensures.0 in
     let up_is : let a = c.args in c.error_not_negative-up.result ≡ le_z (pos 0) (scaled_error a.sample a.scaled) =
-      simp (to_z-of_z, c.ranges.sample, c.ranges.scaled) at c.error_not_negative-up.ensures in
+    simp (to_z-of_z, c.ranges.sample, c.ranges.scaled) at c.error_not_negative-up.ensures in
     learnt_by c.requires c.component_count-n.result c.component_count-n.ensures c.args.sample c.exponent-rho.result c.error_not_negative-up.result c.step_weights.new.ws (let n = c.if-place-eq0.false in omega arith) rho-is up_is (simp (to_z-of_z, rho-fits) at c.step_weights.ensures)

@@ -32,23 +32,23 @@ bounds-image-at c =
 pub learn-requires : goal.learn-requires
 learn-requires c =
     let st-fits : SFits w64 c.scaled_here-scaled.result =
-      ok w64 c.scaled_here-scaled.result c.scaled_here-scaled.type_inv in
+    ok w64 c.scaled_here-scaled.result c.scaled_here-scaled.type_inv in
     rw (to_z-of_z st-fits) (learning c.requires c.scaled_here-scaled.ensures)
 
 pub map_residual-requires : goal.map_residual-requires
 map_residual-requires c =
     let st-fits : SFits w64 c.scaled_here-scaled.result =
-      ok w64 c.scaled_here-scaled.result c.scaled_here-scaled.type_inv in
+    ok w64 c.scaled_here-scaled.result c.scaled_here-scaled.type_inv in
     let s-fits : let a = c.args in SFits w32 (get_or a.image.now (a.place.z * a.p.area + a.place.t) (pos 0)) =
-      ok w32 _ c.sample-1.given in
+    ok w32 _ c.sample-1.given in
     let u = c.requires.plan in
     simp (to_z-of_z, s-fits, low_fits u, high_fits u, st-fits) (mapping c.requires c.scaled_here-scaled.ensures _ (sample_at c.requires))
 
 pub returns : goal.returns
 returns c =
     let st-fits : SFits w64 c.scaled_here-scaled.result =
-      ok w64 c.scaled_here-scaled.result c.scaled_here-scaled.type_inv in
+    ok w64 c.scaled_here-scaled.result c.scaled_here-scaled.type_inv in
     let s-fits : let a = c.args in SFits w32 (get_or a.image.now (a.place.z * a.p.area + a.place.t) (pos 0)) =
-      ok w32 _ c.sample-1.given in
+    ok w32 _ c.sample-1.given in
     let u = c.requires.plan in
     mapped_so c.requires c.scaled_here-scaled.ensures _ _ _ (sample_at c.requires) (simp (to_z-of_z, s-fits, low_fits u, high_fits u, st-fits) at c.map_residual.ensures) (simp (to_z-of_z, s-fits, st-fits) at c.learn.ensures)

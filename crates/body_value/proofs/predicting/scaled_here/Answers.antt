@@ -29,13 +29,13 @@ slice_bounds-predict-end-3 c =
 pub predict-requires : goal.predict-requires
 predict-requires c =
     let sum_fits : SFits w64 c.differences-sum.result =
-      ok w64 c.differences-sum.result c.differences-sum.type_inv in
+    ok w64 c.differences-sum.result c.differences-sum.type_inv in
     rw c.component_count-n.ensures (simp (to_z-of_z, sum_fits, middle_fits (c.requires.0.plan)) (terms c.requires.0 _ _ c.differences-sum.ensures.components_are c.differences-sum.ensures.sum_is))
 
 pub returns : goal.returns
 returns c =
     let sum_fits : SFits w64 c.differences-sum.result =
-      ok w64 c.differences-sum.result c.differences-sum.type_inv in
+    ok w64 c.differences-sum.result c.differences-sum.type_inv in
     let u = c.requires.0.plan in
     rw (to_z-of_z (ok w64 c.predict.result c.predict.type_inv))
     (later_is c.requires.0 _ _ _ (let n = c.if-place-eq0.false in omega arith) c.differences-sum.ensures (rw c.component_count-n.ensures at (simp (to_z-of_z, sum_fits, low_fits u, middle_fits u, high_fits u) at c.predict.ensures)))

@@ -23,7 +23,7 @@ slice_bounds-sample_here-end-in-Value c =
 pub sample_here-sample-requires : goal.sample_here-sample-requires
 sample_here-sample-requires c =
     let found-is : let a = c.args in Found a.p (take 14 (drop 18 a.slots.now)) (unpack a.file.now) a.c.at a.place.t c.decoded-found.new.slots c.in-Value.delta c.in-Value.next =
-      rw c.in-Value.is at c.decoded-found.ensures in
+    rw c.in-Value.is at c.decoded-found.ensures in
     sampling c.requires found-is
 
 pub overflow_mul-at : goal.overflow_mul-at
@@ -49,7 +49,7 @@ overflow_add-after c =
 pub returns-in-Value : goal.returns-in-Value
 returns-in-Value c =
     let found-is : let a = c.args in Found a.p (take 14 (drop 18 a.slots.now)) (unpack a.file.now) a.c.at a.place.t c.decoded-found.new.slots c.in-Value.delta c.in-Value.next =
-      rw c.in-Value.is at c.decoded-found.ensures in
+    rw c.in-Value.is at c.decoded-found.ensures in
     rw (to_z-of_z (ok w32 c.sample_here-sample.result c.sample_here-sample.type_inv)) (took c.requires found-is c.sample_here-sample.ensures _ (index_is c.requires) _ refl)
 
 pub returns-in-Short : goal.returns-in-Short

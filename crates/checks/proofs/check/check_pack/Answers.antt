@@ -24,46 +24,46 @@ returns-then-not-settings_legal c = rw (sym c.settings_legal.ensures ∙ c.if-no
 pub sample_count-requires : goal.sample_count-requires
 sample_count-requires c =
     let legal : settings_legal c.args.s ≡ true =
-      sym c.settings_legal.ensures ∙ c.if-not-settings_legal.false in
+    sym c.settings_legal.ensures ∙ c.if-not-settings_legal.false in
     count_fits c.args.s.image (legal_settings c.args.s legal).image
 
 pub returns-then-not-small : goal.returns-then-not-small
 unfolding check_pack first_hit
 returns-then-not-small c =
     let legal : settings_legal c.args.s ≡ true =
-      sym c.settings_legal.ensures ∙ c.if-not-settings_legal.false in
+    sym c.settings_legal.ensures ∙ c.if-not-settings_legal.false in
     rw (legal, sym c.limited-small.ensures ∙ c.if-not-small.true)
 
 pub returns-then-not-counted : goal.returns-then-not-counted
 unfolding check_pack first_hit
 returns-then-not-counted c =
     let legal : settings_legal c.args.s ≡ true =
-      sym c.settings_legal.ensures ∙ c.if-not-settings_legal.false in
+    sym c.settings_legal.ensures ∙ c.if-not-settings_legal.false in
     let small : limited c.args.s.image ≡ true =
-      sym c.limited-small.ensures ∙ c.if-not-small.false in
+    sym c.limited-small.ensures ∙ c.if-not-small.false in
     let counts : eqb (length c.args.samples.now) (sample_count c.args.s.image) ≡ eqb (length c.args.samples.now) c.sample_count.result =
-      ap (λ (n : ℕ). eqb (length c.args.samples.now) n) (sym c.sample_count.ensures) in
+    ap (λ (n : ℕ). eqb (length c.args.samples.now) n) (sym c.sample_count.ensures) in
     rw (legal, small, counts ∙ ne_eqb _ _ c.if-not-counted.true)
 
 pub returns-then-areas_short : goal.returns-then-areas_short
 unfolding check_pack first_hit
 returns-then-areas_short c =
     let legal : settings_legal c.args.s ≡ true =
-      sym c.settings_legal.ensures ∙ c.if-not-settings_legal.false in
+    sym c.settings_legal.ensures ∙ c.if-not-settings_legal.false in
     let small : limited c.args.s.image ≡ true =
-      sym c.limited-small.ensures ∙ c.if-not-small.false in
+    sym c.limited-small.ensures ∙ c.if-not-small.false in
     let counts : eqb (length c.args.samples.now) (sample_count c.args.s.image) ≡ eqb (length c.args.samples.now) c.sample_count.result =
-      ap (λ (n : ℕ). eqb (length c.args.samples.now) n) (sym c.sample_count.ensures) in
+    ap (λ (n : ℕ). eqb (length c.args.samples.now) n) (sym c.sample_count.ensures) in
     let counted : eqb (length c.args.samples.now) (sample_count c.args.s.image) ≡ true =
-      counts ∙ eq-eqb _ _ c.if-not-counted.false in
+    counts ∙ eq-eqb _ _ c.if-not-counted.false in
     rw (legal, small, counted, sym c.areas_short.ensures ∙ c.if-areas_short.true)
 
 pub tables_legal-requires : goal.tables_legal-requires
 tables_legal-requires c =
     let legal : settings_legal c.args.s ≡ true =
-      sym c.settings_legal.ensures ∙ c.if-not-settings_legal.false in
+    sym c.settings_legal.ensures ∙ c.if-not-settings_legal.false in
     let roomy-areas : areas_short c.args.s c.args.scratch (length c.args.tables.now) ≡ false =
-      sym c.areas_short.ensures ∙ c.if-areas_short.false in
+    sym c.areas_short.ensures ∙ c.if-areas_short.false in
     record {
       s_value = legal;
       nz_in_bounds = (roomy _ _ _ roomy-areas).tables_hold;
@@ -73,53 +73,53 @@ pub returns-then-not-tables_legal : goal.returns-then-not-tables_legal
 unfolding check_pack first_hit
 returns-then-not-tables_legal c =
     let legal : settings_legal c.args.s ≡ true =
-      sym c.settings_legal.ensures ∙ c.if-not-settings_legal.false in
+    sym c.settings_legal.ensures ∙ c.if-not-settings_legal.false in
     let small : limited c.args.s.image ≡ true =
-      sym c.limited-small.ensures ∙ c.if-not-small.false in
+    sym c.limited-small.ensures ∙ c.if-not-small.false in
     let counts : eqb (length c.args.samples.now) (sample_count c.args.s.image) ≡ eqb (length c.args.samples.now) c.sample_count.result =
-      ap (λ (n : ℕ). eqb (length c.args.samples.now) n) (sym c.sample_count.ensures) in
+    ap (λ (n : ℕ). eqb (length c.args.samples.now) n) (sym c.sample_count.ensures) in
     let counted : eqb (length c.args.samples.now) (sample_count c.args.s.image) ≡ true =
-      counts ∙ eq-eqb _ _ c.if-not-counted.false in
+    counts ∙ eq-eqb _ _ c.if-not-counted.false in
     let roomy-areas : areas_short c.args.s c.args.scratch (length c.args.tables.now) ≡ false =
-      sym c.areas_short.ensures ∙ c.if-areas_short.false in
+    sym c.areas_short.ensures ∙ c.if-areas_short.false in
     rw (legal, small, counted, roomy-areas, sym c.tables_legal.ensures ∙ c.if-not-tables_legal.true)
 
 pub first_out-first-requires : goal.first_out-first-requires
 first_out-first-requires c =
     let legal : settings_legal c.args.s ≡ true =
-      sym c.settings_legal.ensures ∙ c.if-not-settings_legal.false in
+    sym c.settings_legal.ensures ∙ c.if-not-settings_legal.false in
     let l = (legal_settings c.args.s legal).image in record { le_depth = omega (arith, l.depth_least); depth_bound = l.depth_most }
 
 pub returns-then-first-samples : goal.returns-then-first-samples
 unfolding check_pack first_hit
 returns-then-first-samples c =
     let legal : settings_legal c.args.s ≡ true =
-      sym c.settings_legal.ensures ∙ c.if-not-settings_legal.false in
+    sym c.settings_legal.ensures ∙ c.if-not-settings_legal.false in
     let small : limited c.args.s.image ≡ true =
-      sym c.limited-small.ensures ∙ c.if-not-small.false in
+    sym c.limited-small.ensures ∙ c.if-not-small.false in
     let counts : eqb (length c.args.samples.now) (sample_count c.args.s.image) ≡ eqb (length c.args.samples.now) c.sample_count.result =
-      ap (λ (n : ℕ). eqb (length c.args.samples.now) n) (sym c.sample_count.ensures) in
+    ap (λ (n : ℕ). eqb (length c.args.samples.now) n) (sym c.sample_count.ensures) in
     let counted : eqb (length c.args.samples.now) (sample_count c.args.s.image) ≡ true =
-      counts ∙ eq-eqb _ _ c.if-not-counted.false in
+    counts ∙ eq-eqb _ _ c.if-not-counted.false in
     let roomy-areas : areas_short c.args.s c.args.scratch (length c.args.tables.now) ≡ false =
-      sym c.areas_short.ensures ∙ c.if-areas_short.false in
+    sym c.areas_short.ensures ∙ c.if-areas_short.false in
     let values : tables_legal c.args.s c.args.tables.now ≡ true =
-      sym c.tables_legal.ensures ∙ c.if-not-tables_legal.false in
+    sym c.tables_legal.ensures ∙ c.if-not-tables_legal.false in
     rw (legal, small, counted, roomy-areas, values, ← c.first_out-first.ensures, lt-ltb _ _ c.if-first-samples.true)
 
 pub returns : goal.returns
 unfolding check_pack first_hit
 returns c =
     let legal : settings_legal c.args.s ≡ true =
-      sym c.settings_legal.ensures ∙ c.if-not-settings_legal.false in
+    sym c.settings_legal.ensures ∙ c.if-not-settings_legal.false in
     let small : limited c.args.s.image ≡ true =
-      sym c.limited-small.ensures ∙ c.if-not-small.false in
+    sym c.limited-small.ensures ∙ c.if-not-small.false in
     let counts : eqb (length c.args.samples.now) (sample_count c.args.s.image) ≡ eqb (length c.args.samples.now) c.sample_count.result =
-      ap (λ (n : ℕ). eqb (length c.args.samples.now) n) (sym c.sample_count.ensures) in
+    ap (λ (n : ℕ). eqb (length c.args.samples.now) n) (sym c.sample_count.ensures) in
     let counted : eqb (length c.args.samples.now) (sample_count c.args.s.image) ≡ true =
-      counts ∙ eq-eqb _ _ c.if-not-counted.false in
+    counts ∙ eq-eqb _ _ c.if-not-counted.false in
     let roomy-areas : areas_short c.args.s c.args.scratch (length c.args.tables.now) ≡ false =
-      sym c.areas_short.ensures ∙ c.if-areas_short.false in
+    sym c.areas_short.ensures ∙ c.if-areas_short.false in
     let values : tables_legal c.args.s c.args.tables.now ≡ true =
-      sym c.tables_legal.ensures ∙ c.if-not-tables_legal.false in
+    sym c.tables_legal.ensures ∙ c.if-not-tables_legal.false in
     rw (legal, small, counted, roomy-areas, values, ← c.first_out-first.ensures, le-ltb _ _ c.if-first-samples.false)

@@ -14,9 +14,9 @@ loop-z-init c = (omega arith, every_of 0 (band_legal c.args.s c.args.tables.now)
 
 pub band_legal-requires : goal.band_legal-requires
 band_legal-requires c = record {
-      s_value = c.requires.s_value;
-      z_in_bounds = omega arith;
-    }
+  s_value = c.requires.s_value;
+  z_in_bounds = omega arith;
+}
 
 pub returns-then-not-band_legal : goal.returns-then-not-band_legal
 unfolding tables_legal

@@ -33,9 +33,9 @@ pub returns-then-not-weight_legal : goal.returns-then-not-weight_legal
 unfolding entry
 returns-then-not-weight_legal c =
     let tested : let s = c in c.weight_legal.result ≡ weight_legal c.args.q (entry c.args.tables.now c.args.z c.loop-i.i) =
-      let s = c in
-      let f : SFits w32 (get_or c.args.tables.now (table_stride * c.args.z + c.loop-i.i) (pos 0)) = sfits_of c.weight_legal-arg-1.given in
-      c.weight_legal.ensures ∙ rw (to_z-of_z f) in
+    let s = c in
+    let f : SFits w32 (get_or c.args.tables.now (table_stride * c.args.z + c.loop-i.i) (pos 0)) = sfits_of c.weight_legal-arg-1.given in
+    c.weight_legal.ensures ∙ rw (to_z-of_z f) in
     let s = c in
     sym (every_not c.args.count (λ j. weight_legal c.args.q (entry c.args.tables.now c.args.z j)) c.loop-i.i (omega arith) (sym tested ∙ c.if-not-weight_legal.true))
 
@@ -49,9 +49,9 @@ pub loop-i-preserved : goal.loop-i-preserved
 unfolding entry
 loop-i-preserved c =
     let tested : let s = c in c.weight_legal.result ≡ weight_legal c.args.q (entry c.args.tables.now c.args.z c.loop-i.i) =
-      let s = c in
-      let f : SFits w32 (get_or c.args.tables.now (table_stride * c.args.z + c.loop-i.i) (pos 0)) = sfits_of c.weight_legal-arg-1.given in
-      c.weight_legal.ensures ∙ rw (to_z-of_z f) in
+    let s = c in
+    let f : SFits w32 (get_or c.args.tables.now (table_stride * c.args.z + c.loop-i.i) (pos 0)) = sfits_of c.weight_legal-arg-1.given in
+    c.weight_legal.ensures ∙ rw (to_z-of_z f) in
     let s = c in
     (omega arith, every_more c.loop-i.i (λ j. weight_legal c.args.q (entry c.args.tables.now c.args.z j)) c.loop-i.invariant.1 (sym tested ∙ c.if-not-weight_legal.false))
 

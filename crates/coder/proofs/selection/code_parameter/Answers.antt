@@ -38,7 +38,7 @@ unfolding candidate
 loop-k-init c =
     let candidate-is : let a = c.args in
     c.if-most-k.k ≡ candidate 64 (a.depth - 2) a.s.count (bound a.s) =
-      elim c.if-most-k.branch [ then-most-k w ↦ omega arith | else-most-k w ↦ omega arith ] in
+    elim c.if-most-k.branch [ then-most-k w ↦ omega arith | else-most-k w ↦ omega arith ] in
     let a = c.args in
     let e = candidate-is in
     let m = candidate_most 64 (a.depth - 2) a.s.count (bound a.s) (omega arith) (omega arith) (omega arith) in
@@ -55,27 +55,27 @@ pub overflow_sub-k-in-loop-k : goal.overflow_sub-k-in-loop-k
 overflow_sub-k-in-loop-k c =
     let above : let a = c.args in
     largest (a.depth - 2) a.s.count (bound a.s) < c.loop-k.k =
-      let a = c.args in
-      let v = c.loop-k in
-      missed 64 (a.depth - 2) a.s.count (bound a.s) v.k (omega arith) (omega arith) v.invariant.3 (omega arith) v.invariant.0 (omega arith) in
+    let a = c.args in
+    let v = c.loop-k in
+    missed 64 (a.depth - 2) a.s.count (bound a.s) v.k (omega arith) (omega arith) v.invariant.3 (omega arith) v.invariant.0 (omega arith) in
     omega (arith, above)
 
 pub loop-k-smaller : goal.loop-k-smaller
 loop-k-smaller c =
     let above : let a = c.args in
     largest (a.depth - 2) a.s.count (bound a.s) < c.loop-k.k =
-      let a = c.args in
-      let v = c.loop-k in
-      missed 64 (a.depth - 2) a.s.count (bound a.s) v.k (omega arith) (omega arith) v.invariant.3 (omega arith) v.invariant.0 (omega arith) in
+    let a = c.args in
+    let v = c.loop-k in
+    missed 64 (a.depth - 2) a.s.count (bound a.s) v.k (omega arith) (omega arith) v.invariant.3 (omega arith) v.invariant.0 (omega arith) in
     omega (arith, above)
 
 pub loop-k-preserved : goal.loop-k-preserved
 loop-k-preserved c =
     let above : let a = c.args in
     largest (a.depth - 2) a.s.count (bound a.s) < c.loop-k.k =
-      let a = c.args in
-      let v = c.loop-k in
-      missed 64 (a.depth - 2) a.s.count (bound a.s) v.k (omega arith) (omega arith) v.invariant.3 (omega arith) v.invariant.0 (omega arith) in
+    let a = c.args in
+    let v = c.loop-k in
+    missed 64 (a.depth - 2) a.s.count (bound a.s) v.k (omega arith) (omega arith) v.invariant.3 (omega arith) v.invariant.0 (omega arith) in
     let v = c.loop-k.invariant in (omega (arith, above), omega arith, omega arith, omega arith)
 
 pub returns : goal.returns

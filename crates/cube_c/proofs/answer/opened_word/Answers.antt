@@ -13,9 +13,9 @@ sample_count-requires c = let e = ap opened_value c.in-Settings.is in omega arit
 pub word-requires : goal.word-requires
 unfolding opened_value
 word-requires c = let e = ap opened_value c.in-Settings.is in record {
-      number_bound = omega arith;
-      value_lt_value_limit = omega (arith, c.sample_count.ensures);
-    }
+  number_bound = omega arith;
+  value_lt_value_limit = omega (arith, c.sample_count.ensures);
+}
 
 pub refusal_word-requires : goal.refusal_word-requires
 unfolding opened_value

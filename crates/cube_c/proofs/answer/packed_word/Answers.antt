@@ -9,9 +9,9 @@ use Rattle.cube_c.proofs.answer.packed_word.Goals as goal
 pub word-requires : goal.word-requires
 unfolding packed_value
 word-requires c = let e = ap packed_value c.in-Length.is in record {
-      number_bound = omega arith;
-      value_lt_value_limit = omega arith;
-    }
+  number_bound = omega arith;
+  value_lt_value_limit = omega arith;
+}
 
 pub refusal_word-requires : goal.refusal_word-requires
 unfolding packed_value

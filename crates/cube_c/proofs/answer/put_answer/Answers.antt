@@ -8,9 +8,9 @@ use Rattle.cube_c.proofs.answer.put_answer.Goals as goal
 pub put_settings-requires : goal.put_settings-requires
 unfolding Storable
 put_settings-requires c = record {
-      slot_count_in_bounds = c.requires.slot_count_in_bounds;
-      small = subst Storable c.in-Settings.is c.requires.storable;
-    }
+  slot_count_in_bounds = c.requires.slot_count_in_bounds;
+  small = subst Storable c.in-Settings.is c.requires.storable;
+}
 
 pub returns-in-Settings : goal.returns-in-Settings
 unfolding slots_after

@@ -14,9 +14,9 @@ returns-then-settings-lt-SLOTS c = opens_short c.args.file.now c.args.scratch.no
 
 pub put_answer-requires : goal.put_answer-requires
 put_answer-requires c = record {
-      slot_count_in_bounds = c.if-settings-lt-SLOTS.false;
-      storable = (opens_fit _ _ _ _ c.open-answer.ensures).storable;
-    }
+  slot_count_in_bounds = c.if-settings-lt-SLOTS.false;
+  storable = (opens_fit _ _ _ _ c.open-answer.ensures).storable;
+}
 
 pub opened_word-requires : goal.opened_word-requires
 opened_word-requires c = (opens_fit _ _ _ _ c.open-answer.ensures).value_small

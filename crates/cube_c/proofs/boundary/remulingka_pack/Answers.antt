@@ -10,7 +10,7 @@ use Rattle.cube_c.proofs.boundary.remulingka_pack.Goals as goal
 pub settings_from-requires : goal.settings_from-requires
 settings_from-requires c =
     let passed : slots_checked c.args.settings.now ≡ Passed =
-      sym c.slots_checked.ensures ∙ c.in-Passed.is in
+    sym c.slots_checked.ensures ∙ c.in-Passed.is in
     let l = slots_pass c.args.settings.now passed in record { slot_count_in_bounds = l.0; l_value = l.1 }
 
 pub packed_word-requires : goal.packed_word-requires
@@ -22,7 +22,7 @@ refusal_word-requires c = refused_small c.args.settings.now c.in-Refused.w (sym 
 pub returns-in-Passed : goal.returns-in-Passed
 returns-in-Passed c =
     let passed : slots_checked c.args.settings.now ≡ Passed =
-      sym c.slots_checked.ensures ∙ c.in-Passed.is in
+    sym c.slots_checked.ensures ∙ c.in-Passed.is in
     packs_passed c.args.settings.now c.args.tables.now c.args.samples.now c.args.scratch.now c.args.out.now passed c.settings_from.ensures c.pack.ensures c.packed_word.ensures
 
 pub returns-in-Refused : goal.returns-in-Refused

@@ -20,9 +20,9 @@ bounds-widths-i c = omega arith
 pub number_at-requires : goal.number_at-requires
 number_at-requires c =
     let width : Width (get_or c.args.widths.now c.loop-i.i 0) =
-      let s = c in fitting_at c.args.widths.now c.loop-i.i c.requires.0 (omega arith) in
+    let s = c in fitting_at c.args.widths.now c.loop-i.i c.requires.0 (omega arith) in
     let room : c.loop-i.next + get_or c.args.widths.now c.loop-i.i 0 ≤ c.args.at + total c.args.widths.now =
-      let s = c in reads_room (unpack c.args.file.now) c.args.at c.args.widths.now c.args.values.now c.requires.1 c.loop-i.values c.loop-i.next c.loop-i.i c.loop-i.invariant (omega arith) in
+    let s = c in reads_room (unpack c.args.file.now) c.args.at c.args.widths.now c.args.values.now c.requires.1 c.loop-i.values c.loop-i.next c.loop-i.i c.loop-i.invariant (omega arith) in
     let w = width in (w.least, omega (arith, w.most), omega (arith, room), omega (arith, room))
 
 pub offset_bounds-values-i : goal.offset_bounds-values-i
@@ -34,13 +34,13 @@ bounds-values-i c = omega (arith, c.loop-i.invariant.long)
 pub overflow_cast-next : goal.overflow_cast-next
 overflow_cast-next c =
     let width : Width (get_or c.args.widths.now c.loop-i.i 0) =
-      let s = c in fitting_at c.args.widths.now c.loop-i.i c.requires.0 (omega arith) in
+    let s = c in fitting_at c.args.widths.now c.loop-i.i c.requires.0 (omega arith) in
     omega (arith, width.most)
 
 pub overflow_add-next : goal.overflow_add-next
 overflow_add-next c =
     let room : c.loop-i.next + get_or c.args.widths.now c.loop-i.i 0 ≤ c.args.at + total c.args.widths.now =
-      let s = c in reads_room (unpack c.args.file.now) c.args.at c.args.widths.now c.args.values.now c.requires.1 c.loop-i.values c.loop-i.next c.loop-i.i c.loop-i.invariant (omega arith) in
+    let s = c in reads_room (unpack c.args.file.now) c.args.at c.args.widths.now c.args.values.now c.requires.1 c.loop-i.values c.loop-i.next c.loop-i.i c.loop-i.invariant (omega arith) in
     omega (arith, room)
 
 pub overflow_add-i : goal.overflow_add-i

@@ -29,7 +29,7 @@ bounds-values-i c = omega arith
 pub power-requires : goal.power-requires
 power-requires c =
     let width : Width (get_or c.args.widths.now c.loop-i.i 0) =
-      fitting_at c.args.widths.now c.loop-i.i c.requires.0 (omega arith) in
+    fitting_at c.args.widths.now c.loop-i.i c.requires.0 (omega arith) in
     omega (arith, width.most)
 
 pub nonzero_rem-values : goal.nonzero_rem-values
@@ -38,7 +38,7 @@ nonzero_rem-values c = rw c.power.ensures (pow_pos _)
 pub put-tail-requires : goal.put-tail-requires
 put-tail-requires c =
     let width : Width (get_or c.args.widths.now c.loop-i.i 0) =
-      fitting_at c.args.widths.now c.loop-i.i c.requires.0 (omega arith) in
+    fitting_at c.args.widths.now c.loop-i.i c.requires.0 (omega arith) in
     let j = c.loop-i.invariant in
     (omega (arith, width.most), reduced_lt _ _ _ c.power.ensures, j.put.count, omega (arith, j.size))
 
@@ -51,7 +51,7 @@ loop-i-smaller c = omega arith
 pub loop-i-preserved : goal.loop-i-preserved
 loop-i-preserved c =
     let width : Width (get_or c.args.widths.now c.loop-i.i 0) =
-      fitting_at c.args.widths.now c.loop-i.i c.requires.0 (omega arith) in
+    fitting_at c.args.widths.now c.loop-i.i c.requires.0 (omega arith) in
     let l = c.loop-i in
     joins_more _ _ _ _ _ l.i l.tail _ l.out _ l.invariant (omega arith) (rw length_bits width.most) c.put-tail.auto.out (reduced _ _ _ c.power.ensures c.put-tail.ensures)
 

@@ -27,32 +27,32 @@ loop-i-init c = joins_begin _ _ _ _ _ c.requires.3
 pub overflow_add-at : goal.overflow_add-at
 overflow_add-at c =
     let few : c.component_count-count.result ≤ 18 =
-      let s = c in
-      let n = narrow _ c.args.z (facts _ _ c.requires.0) c.requires.1 in
-      omega (arith, c.component_count-count.ensures, n.few) in
+    let s = c in
+    let n = narrow _ c.args.z (facts _ _ c.requires.0) c.requires.1 in
+    omega (arith, c.component_count-count.ensures, n.few) in
     omega (arith, c.requires.0.area, few)
 
 pub offset_bounds-tables-at : goal.offset_bounds-tables-at
 offset_bounds-tables-at c =
     let few : c.component_count-count.result ≤ 18 =
-      let s = c in
-      let n = narrow _ c.args.z (facts _ _ c.requires.0) c.requires.1 in
-      omega (arith, c.component_count-count.ensures, n.few) in
+    let s = c in
+    let n = narrow _ c.args.z (facts _ _ c.requires.0) c.requires.1 in
+    omega (arith, c.component_count-count.ensures, n.few) in
     omega (arith, c.requires.0.area, few)
 
 pub bounds-tables-at : goal.bounds-tables-at
 bounds-tables-at c =
     let few : c.component_count-count.result ≤ 18 =
-      let s = c in
-      let n = narrow _ c.args.z (facts _ _ c.requires.0) c.requires.1 in
-      omega (arith, c.component_count-count.ensures, n.few) in
+    let s = c in
+    let n = narrow _ c.args.z (facts _ _ c.requires.0) c.requires.1 in
+    omega (arith, c.component_count-count.ensures, n.few) in
     omega (arith, c.requires.0.area, few)
 
 pub twos-requires : goal.twos-requires
 unfolding entry
 twos-requires c =
     let held : SFits w32 (get_or c.args.tables.now (table_stride * c.args.z + c.loop-i.i) (pos 0)) =
-      sfits_of c.twos-arg-1.given in
+    sfits_of c.twos-arg-1.given in
     let s = c in
     let n = narrow _ c.args.z (facts _ _ c.requires.0) c.requires.1 in
     (n.least, n.most, rw (to_z-of_z held) (weight_at _ _ c.requires.0 _ c.requires.2 _ c.requires.1 (omega (arith, c.component_count-count.ensures))))
@@ -60,9 +60,9 @@ twos-requires c =
 pub put-tail-requires : goal.put-tail-requires
 put-tail-requires c =
     let few : c.component_count-count.result ≤ 18 =
-      let s = c in
-      let n = narrow _ c.args.z (facts _ _ c.requires.0) c.requires.1 in
-      omega (arith, c.component_count-count.ensures, n.few) in
+    let s = c in
+    let n = narrow _ c.args.z (facts _ _ c.requires.0) c.requires.1 in
+    omega (arith, c.component_count-count.ensures, n.few) in
     let s = c in
     let n = narrow _ c.args.z (facts _ _ c.requires.0) c.requires.1 in
     (omega (arith, n.most), c.twos.ensures.1, c.loop-i.invariant.put.count, omega (arith, c.loop-i.invariant.size, few))
@@ -70,9 +70,9 @@ put-tail-requires c =
 pub overflow_add-i : goal.overflow_add-i
 overflow_add-i c =
     let few : c.component_count-count.result ≤ 18 =
-      let s = c in
-      let n = narrow _ c.args.z (facts _ _ c.requires.0) c.requires.1 in
-      omega (arith, c.component_count-count.ensures, n.few) in
+    let s = c in
+    let n = narrow _ c.args.z (facts _ _ c.requires.0) c.requires.1 in
+    omega (arith, c.component_count-count.ensures, n.few) in
     omega (arith, few)
 
 pub loop-i-smaller : goal.loop-i-smaller
@@ -82,7 +82,7 @@ pub loop-i-preserved : goal.loop-i-preserved
 unfolding entry
 loop-i-preserved c =
     let held : SFits w32 (get_or c.args.tables.now (table_stride * c.args.z + c.loop-i.i) (pos 0)) =
-      sfits_of c.twos-arg-1.given in
+    sfits_of c.twos-arg-1.given in
     let s = c in
     let l = c.loop-i in
     let n = narrow _ c.args.z (facts _ _ c.requires.0) c.requires.1 in

@@ -40,7 +40,7 @@ pub natural-requires : goal.natural-requires
 unfolding entry
 natural-requires c =
     let held : SFits w32 (get_or c.args.tables.now (table_stride * c.loop-z.z + parameter_slot) (pos 0)) =
-      sfits_of c.natural-arg-1.given in
+    sfits_of c.natural-arg-1.given in
     let s = c in
     ((facts _ _ c.requires.0).all.image.depth_most, rw (to_z-of_z held) (accumulator_at _ _ c.requires.0 _ (omega arith) c.requires.1))
 
@@ -57,7 +57,7 @@ pub loop-z-preserved : goal.loop-z-preserved
 unfolding entry
 loop-z-preserved c =
     let held : SFits w32 (get_or c.args.tables.now (table_stride * c.loop-z.z + parameter_slot) (pos 0)) =
-      sfits_of c.natural-arg-1.given in
+    sfits_of c.natural-arg-1.given in
     let l = c.loop-z in
     let e = c.natural.ensures.0 ∙ ap nat_abs (to_z-of_z held) in
     joins_more _ _ _ _ _ l.z l.tail _ l.out _ l.invariant (omega arith) (rw length_bits (omega arith)) c.put-tail.auto.out (put_as (ap (bits 4) e) c.put-tail.ensures)

@@ -23,9 +23,9 @@ pub returns-then-ends_before : goal.returns-then-ends_before
 unfolding read_coder
 returns-then-ends_before c =
     let ends : ltb (length (drop c.args.at (unpack c.args.file.now))) coder_bits ≡ c.ends_before.result =
-      missing (unpack c.args.file.now) c.args.at coder_bits (λ _. omega arith) ∙ sym c.ends_before.ensures in
+    missing (unpack c.args.file.now) c.args.at coder_bits (λ _. omega arith) ∙ sym c.ends_before.ensures in
     let read-absent : read_coder c.args.image (drop c.args.at (unpack c.args.file.now)) ≡ refused EndsInHeader =
-      absent coder_bits (drop c.args.at (unpack c.args.file.now)) _ (ends ∙ c.if-ends_before.true) in
+    absent coder_bits (drop c.args.at (unpack c.args.file.now)) _ (ends ∙ c.if-ends_before.true) in
     sym (ap coder_read read-absent)
 
 pub coder_numbers-v-requires : goal.coder_numbers-v-requires
@@ -37,19 +37,19 @@ coder_of-coder-requires c = rw c.coder_numbers-v.ensures (split_lt coder_widths 
 pub returns-then-not-coder_legal : goal.returns-then-not-coder_legal
 returns-then-not-coder_legal c =
     let ends : ltb (length (drop c.args.at (unpack c.args.file.now))) coder_bits ≡ c.ends_before.result =
-      missing (unpack c.args.file.now) c.args.at coder_bits (λ _. omega arith) ∙ sym c.ends_before.ensures in
+    missing (unpack c.args.file.now) c.args.at coder_bits (λ _. omega arith) ∙ sym c.ends_before.ensures in
     let seen : let a = c.args in let l = drop a.at (unpack a.file.now) in
     PartSeen (read_coder a.image l) coder_bits c.coder_legal.result [] c.coder_of-coder.result l =
-      coder_part _ _ c.coder_numbers-v.result _ _ (ends ∙ c.if-ends_before.false)
-      c.coder_numbers-v.ensures c.coder_of-coder.ensures c.coder_legal.ensures in
+    coder_part _ _ c.coder_numbers-v.result _ _ (ends ∙ c.if-ends_before.false)
+    c.coder_numbers-v.ensures c.coder_of-coder.ensures c.coder_legal.ensures in
     sym (ap coder_read (illegal seen (ap not c.if-not-coder_legal.true)))
 
 pub returns : goal.returns
 returns c =
     let ends : ltb (length (drop c.args.at (unpack c.args.file.now))) coder_bits ≡ c.ends_before.result =
-      missing (unpack c.args.file.now) c.args.at coder_bits (λ _. omega arith) ∙ sym c.ends_before.ensures in
+    missing (unpack c.args.file.now) c.args.at coder_bits (λ _. omega arith) ∙ sym c.ends_before.ensures in
     let seen : let a = c.args in let l = drop a.at (unpack a.file.now) in
     PartSeen (read_coder a.image l) coder_bits c.coder_legal.result [] c.coder_of-coder.result l =
-      coder_part _ _ c.coder_numbers-v.result _ _ (ends ∙ c.if-ends_before.false)
-      c.coder_numbers-v.ensures c.coder_of-coder.ensures c.coder_legal.ensures in
+    coder_part _ _ c.coder_numbers-v.result _ _ (ends ∙ c.if-ends_before.false)
+    c.coder_numbers-v.ensures c.coder_of-coder.ensures c.coder_legal.ensures in
     sym (ap coder_read (legal_part seen (ap not c.if-not-coder_legal.false)))

@@ -25,13 +25,13 @@ pub returns-then-ends_before : goal.returns-then-ends_before
 unfolding read_image
 returns-then-ends_before c =
     let read-absent : read_image (unpack c.args.file.now) ≡ refused EndsInHeader =
-      absent image_bits (unpack c.args.file.now) _ (sym c.ends_before.ensures ∙ c.if-ends_before.true) in
+    absent image_bits (unpack c.args.file.now) _ (sym c.ends_before.ensures ∙ c.if-ends_before.true) in
     sym (ap image_read read-absent)
 
 pub image_numbers-v-requires : goal.image_numbers-v-requires
 image_numbers-v-requires c =
     let there : ltb (length (unpack c.args.file.now)) image_bits ≡ false =
-      sym c.ends_before.ensures ∙ c.if-ends_before.false in
+    sym c.ends_before.ensures ∙ c.if-ends_before.false in
     ltb-false _ _ there
 
 pub image_of-image-requires : goal.image_of-image-requires
@@ -40,35 +40,35 @@ image_of-image-requires c = rw c.image_numbers-v.ensures (split_lt image_widths 
 pub returns-then-not-image_legal-image_plain : goal.returns-then-not-image_legal-image_plain
 returns-then-not-image_legal-image_plain c =
     let there : ltb (length (unpack c.args.file.now)) image_bits ≡ false =
-      sym c.ends_before.ensures ∙ c.if-ends_before.false in
+    sym c.ends_before.ensures ∙ c.if-ends_before.false in
     let seen : let l = unpack c.args.file.now in let v = c.image_numbers-v.result in let I = c.image_of-image.result in
     PartSeen (read_image l) image_bits (c.image_legal.result && c.image_plain.result) (eqb (v ‼ coder_type) 1 ⇒ BlockCoder ∷ not (limited I) ⇒ HouseLimit ∷ []) I l =
-      image_part _ c.image_numbers-v.result _ _ _ there c.image_numbers-v.ensures c.image_of-image.ensures c.image_legal.ensures c.image_plain.ensures in
+    image_part _ c.image_numbers-v.result _ _ _ there c.image_numbers-v.ensures c.image_of-image.ensures c.image_legal.ensures c.image_plain.ensures in
     sym (ap image_read (illegal seen (ap not c.if-not-image_legal-image_plain.true)))
 
 pub returns-then-v-eq1 : goal.returns-then-v-eq1
 returns-then-v-eq1 c =
     let there : ltb (length (unpack c.args.file.now)) image_bits ≡ false =
-      sym c.ends_before.ensures ∙ c.if-ends_before.false in
+    sym c.ends_before.ensures ∙ c.if-ends_before.false in
     let seen : let l = unpack c.args.file.now in let v = c.image_numbers-v.result in let I = c.image_of-image.result in
     PartSeen (read_image l) image_bits (c.image_legal.result && c.image_plain.result) (eqb (v ‼ coder_type) 1 ⇒ BlockCoder ∷ not (limited I) ⇒ HouseLimit ∷ []) I l =
-      image_part _ c.image_numbers-v.result _ _ _ there c.image_numbers-v.ensures c.image_of-image.ensures c.image_legal.ensures c.image_plain.ensures in
+    image_part _ c.image_numbers-v.result _ _ _ there c.image_numbers-v.ensures c.image_of-image.ensures c.image_legal.ensures c.image_plain.ensures in
     sym (ap image_read (block_coder seen (ap not c.if-not-image_legal-image_plain.false) c.if-v-eq1.true))
 
 pub returns-then-not-limited : goal.returns-then-not-limited
 returns-then-not-limited c =
     let there : ltb (length (unpack c.args.file.now)) image_bits ≡ false =
-      sym c.ends_before.ensures ∙ c.if-ends_before.false in
+    sym c.ends_before.ensures ∙ c.if-ends_before.false in
     let seen : let l = unpack c.args.file.now in let v = c.image_numbers-v.result in let I = c.image_of-image.result in
     PartSeen (read_image l) image_bits (c.image_legal.result && c.image_plain.result) (eqb (v ‼ coder_type) 1 ⇒ BlockCoder ∷ not (limited I) ⇒ HouseLimit ∷ []) I l =
-      image_part _ c.image_numbers-v.result _ _ _ there c.image_numbers-v.ensures c.image_of-image.ensures c.image_legal.ensures c.image_plain.ensures in
+    image_part _ c.image_numbers-v.result _ _ _ there c.image_numbers-v.ensures c.image_of-image.ensures c.image_legal.ensures c.image_plain.ensures in
     sym (ap image_read (past_limit seen (ap not c.if-not-image_legal-image_plain.false) c.limited.result c.limited.ensures c.if-v-eq1.false (ap not c.if-not-limited.true)))
 
 pub returns : goal.returns
 returns c =
     let there : ltb (length (unpack c.args.file.now)) image_bits ≡ false =
-      sym c.ends_before.ensures ∙ c.if-ends_before.false in
+    sym c.ends_before.ensures ∙ c.if-ends_before.false in
     let seen : let l = unpack c.args.file.now in let v = c.image_numbers-v.result in let I = c.image_of-image.result in
     PartSeen (read_image l) image_bits (c.image_legal.result && c.image_plain.result) (eqb (v ‼ coder_type) 1 ⇒ BlockCoder ∷ not (limited I) ⇒ HouseLimit ∷ []) I l =
-      image_part _ c.image_numbers-v.result _ _ _ there c.image_numbers-v.ensures c.image_of-image.ensures c.image_legal.ensures c.image_plain.ensures in
+    image_part _ c.image_numbers-v.result _ _ _ there c.image_numbers-v.ensures c.image_of-image.ensures c.image_legal.ensures c.image_plain.ensures in
     sym (ap image_read (whole_image seen (ap not c.if-not-image_legal-image_plain.false) c.limited.result c.limited.ensures c.if-v-eq1.false (ap not c.if-not-limited.false)))

@@ -23,9 +23,9 @@ pub returns-then-ends_before : goal.returns-then-ends_before
 unfolding read_predictor
 returns-then-ends_before c =
     let ends : ltb (length (drop image_bits (unpack c.args.file.now))) predictor_bits ≡ c.ends_before.result =
-      missing (unpack c.args.file.now) image_bits predictor_bits (λ _. omega arith) ∙ sym c.ends_before.ensures in
+    missing (unpack c.args.file.now) image_bits predictor_bits (λ _. omega arith) ∙ sym c.ends_before.ensures in
     let read-absent : read_predictor c.args.image (drop image_bits (unpack c.args.file.now)) ≡ refused EndsInHeader =
-      absent predictor_bits (drop image_bits (unpack c.args.file.now)) _ (ends ∙ c.if-ends_before.true) in
+    absent predictor_bits (drop image_bits (unpack c.args.file.now)) _ (ends ∙ c.if-ends_before.true) in
     sym (ap predictor_read read-absent)
 
 pub predictor_numbers-v-requires : goal.predictor_numbers-v-requires
@@ -38,19 +38,19 @@ predictor_of-predictor-requires c = rw c.predictor_numbers-v.ensures
 pub returns-then-not-predictor_legal-predictor_plain : goal.returns-then-not-predictor_legal-predictor_plain
 returns-then-not-predictor_legal-predictor_plain c =
     let ends : ltb (length (drop image_bits (unpack c.args.file.now))) predictor_bits ≡ c.ends_before.result =
-      missing (unpack c.args.file.now) image_bits predictor_bits (λ _. omega arith) ∙ sym c.ends_before.ensures in
+    missing (unpack c.args.file.now) image_bits predictor_bits (λ _. omega arith) ∙ sym c.ends_before.ensures in
     let seen : let a = c.args in let l = drop image_bits (unpack a.file.now) in
     PartSeen (read_predictor a.image l) predictor_bits (c.predictor_legal.result && c.predictor_plain.result) [] c.predictor_of-predictor.result l =
-      predictor_part _ _ c.predictor_numbers-v.result _ _ _ (ends ∙ c.if-ends_before.false)
-      c.predictor_numbers-v.ensures c.predictor_of-predictor.ensures c.predictor_legal.ensures c.predictor_plain.ensures in
+    predictor_part _ _ c.predictor_numbers-v.result _ _ _ (ends ∙ c.if-ends_before.false)
+    c.predictor_numbers-v.ensures c.predictor_of-predictor.ensures c.predictor_legal.ensures c.predictor_plain.ensures in
     sym (ap predictor_read (illegal seen (ap not c.if-not-predictor_legal-predictor_plain.true)))
 
 pub returns : goal.returns
 returns c =
     let ends : ltb (length (drop image_bits (unpack c.args.file.now))) predictor_bits ≡ c.ends_before.result =
-      missing (unpack c.args.file.now) image_bits predictor_bits (λ _. omega arith) ∙ sym c.ends_before.ensures in
+    missing (unpack c.args.file.now) image_bits predictor_bits (λ _. omega arith) ∙ sym c.ends_before.ensures in
     let seen : let a = c.args in let l = drop image_bits (unpack a.file.now) in
     PartSeen (read_predictor a.image l) predictor_bits (c.predictor_legal.result && c.predictor_plain.result) [] c.predictor_of-predictor.result l =
-      predictor_part _ _ c.predictor_numbers-v.result _ _ _ (ends ∙ c.if-ends_before.false)
-      c.predictor_numbers-v.ensures c.predictor_of-predictor.ensures c.predictor_legal.ensures c.predictor_plain.ensures in
+    predictor_part _ _ c.predictor_numbers-v.result _ _ _ (ends ∙ c.if-ends_before.false)
+    c.predictor_numbers-v.ensures c.predictor_of-predictor.ensures c.predictor_legal.ensures c.predictor_plain.ensures in
     sym (ap predictor_read (legal_part seen (ap not c.if-not-predictor_legal-predictor_plain.false)))

@@ -27,34 +27,34 @@ weight_bits-n-requires c = (c.requires.0, c.requires.1, not-false _ c.if-not-pre
 pub returns-then-ends_before : goal.returns-then-ends_before
 returns-then-ends_before c =
     let table : let a = c.args in let l = drop predictor_end (unpack a.file.now) in read_weights a.image a.predictor l ≡ read_table c.weight_bits-n.result (λ t. true) l =
-      weights_custom _ _ _ _ (not-false _ c.if-not-predictor.false) c.weight_bits-n.ensures.0 in
+    weights_custom _ _ _ _ (not-false _ c.if-not-predictor.false) c.weight_bits-n.ensures.0 in
     let a = c.args in
     sym (ap table_read (table ∙ table_absent (unpack a.file.now) predictor_end c.weight_bits-n.result (λ t. true) (omega arith) c.padded-size.result c.padded-size.ensures.0 c.ends_before.result c.ends_before.ensures c.if-ends_before.true))
 
 pub fill_clear-requires : goal.fill_clear-requires
 fill_clear-requires c =
     let room : predictor_end + c.padded-size.result ≤ length (unpack c.args.file.now) =
-      ltb-false _ _ (sym c.ends_before.ensures ∙ c.if-ends_before.false) in
+    ltb-false _ _ (sym c.ends_before.ensures ∙ c.if-ends_before.false) in
     (omega arith, omega arith, omega (arith, room))
 
 pub returns-then-not-fill_clear : goal.returns-then-not-fill_clear
 returns-then-not-fill_clear c =
     let table : let a = c.args in let l = drop predictor_end (unpack a.file.now) in read_weights a.image a.predictor l ≡ read_table c.weight_bits-n.result (λ t. true) l =
-      weights_custom _ _ _ _ (not-false _ c.if-not-predictor.false) c.weight_bits-n.ensures.0 in
+    weights_custom _ _ _ _ (not-false _ c.if-not-predictor.false) c.weight_bits-n.ensures.0 in
     let seen : let l = drop predictor_end (unpack c.args.file.now) in let n = c.weight_bits-n.result in
     PartSeen (read_table n (λ t. true) l) (padded n) (true && c.fill_clear.result) [] (take n l) l =
-      let a = c.args in
-      table_seen (unpack a.file.now) predictor_end c.weight_bits-n.result (λ t. true) (omega arith) c.padded-size.result c.padded-size.ensures.0 c.ends_before.result c.ends_before.ensures
-      true c.fill_clear.result c.if-ends_before.false refl c.fill_clear.ensures in
+    let a = c.args in
+    table_seen (unpack a.file.now) predictor_end c.weight_bits-n.result (λ t. true) (omega arith) c.padded-size.result c.padded-size.ensures.0 c.ends_before.result c.ends_before.ensures
+    true c.fill_clear.result c.if-ends_before.false refl c.fill_clear.ensures in
     sym (ap table_read (table ∙ illegal seen (ap not c.if-not-fill_clear.true)))
 
 pub returns : goal.returns
 returns c =
     let table : let a = c.args in let l = drop predictor_end (unpack a.file.now) in read_weights a.image a.predictor l ≡ read_table c.weight_bits-n.result (λ t. true) l =
-      weights_custom _ _ _ _ (not-false _ c.if-not-predictor.false) c.weight_bits-n.ensures.0 in
+    weights_custom _ _ _ _ (not-false _ c.if-not-predictor.false) c.weight_bits-n.ensures.0 in
     let seen : let l = drop predictor_end (unpack c.args.file.now) in let n = c.weight_bits-n.result in
     PartSeen (read_table n (λ t. true) l) (padded n) (true && c.fill_clear.result) [] (take n l) l =
-      let a = c.args in
-      table_seen (unpack a.file.now) predictor_end c.weight_bits-n.result (λ t. true) (omega arith) c.padded-size.result c.padded-size.ensures.0 c.ends_before.result c.ends_before.ensures
-      true c.fill_clear.result c.if-ends_before.false refl c.fill_clear.ensures in
+    let a = c.args in
+    table_seen (unpack a.file.now) predictor_end c.weight_bits-n.result (λ t. true) (omega arith) c.padded-size.result c.padded-size.ensures.0 c.ends_before.result c.ends_before.ensures
+    true c.fill_clear.result c.if-ends_before.false refl c.fill_clear.ensures in
     sym (ap table_read (table ∙ legal_part seen (ap not c.if-not-fill_clear.false)))

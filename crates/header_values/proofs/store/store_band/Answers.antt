@@ -14,7 +14,7 @@ use Rattle.header_values.proofs.store.store_band.Goals as goal
 pub overflow_mul-base : goal.overflow_mul-base
 overflow_mul-base c =
     let few : c.args.z < most_bands =
-      omega (arith, c.requires.2, bands_few _ c.args.s c.args.at c.requires.0) in
+    omega (arith, c.requires.2, bands_few _ c.args.s c.args.at c.requires.0) in
     omega (arith, few)
 
 pub loop-i-init : goal.loop-i-init
@@ -26,13 +26,13 @@ slot_at-requires c = let s = c in (c.requires.0, c.requires.1, c.requires.2, ome
 pub overflow_add-base : goal.overflow_add-base
 overflow_add-base c =
     let few : c.args.z < most_bands =
-      omega (arith, c.requires.2, bands_few _ c.args.s c.args.at c.requires.0) in
+    omega (arith, c.requires.2, bands_few _ c.args.s c.args.at c.requires.0) in
     omega (arith, few)
 
 pub offset_bounds-tables-base : goal.offset_bounds-tables-base
 offset_bounds-tables-base c =
     let few : c.args.z < most_bands =
-      omega (arith, c.requires.2, bands_few _ c.args.s c.args.at c.requires.0) in
+    omega (arith, c.requires.2, bands_few _ c.args.s c.args.at c.requires.0) in
     omega (arith, few)
 
 pub bounds-tables-base : goal.bounds-tables-base

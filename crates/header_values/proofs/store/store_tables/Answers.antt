@@ -26,7 +26,7 @@ loop-z-init c = bands_begin _ _ _
 pub store_band-requires : goal.store_band-requires
 store_band-requires c =
     let done : let a = c.args in AccumulatorsDone (unpack a.file.now) a.s (fixed_bits + c.weights_size-at.result) =
-      storing_done _ c.args.s _ c.weights_size-at.result c.requires c.weights_size-at.ensures.0 in
+    storing_done _ c.args.s _ c.weights_size-at.result c.requires c.weights_size-at.ensures.0 in
     let s = c in
     let v = c.loop-z.invariant in
     (done, v.components, omega arith, omega (arith, v.long, c.requires.area))
@@ -37,10 +37,10 @@ component_count-first-requires c = tt
 pub overflow_add-first : goal.overflow_add-first
 overflow_add-first c =
     let done : let a = c.args in AccumulatorsDone (unpack a.file.now) a.s (fixed_bits + c.weights_size-at.result) =
-      storing_done _ c.args.s _ c.weights_size-at.result c.requires c.weights_size-at.ensures.0 in
+    storing_done _ c.args.s _ c.weights_size-at.result c.requires c.weights_size-at.ensures.0 in
     let few : (z : ℕ) → components_before c.args.s.predictor z ≤ 18 * z =
-      λ z. let s = c in
-      components_most c.args.s.predictor z (legal_predictor c.args.s.image c.args.s.predictor (storing_facts _ c.args.s _ c.requires).legal).bands_most in
+    λ z. let s = c in
+    components_most c.args.s.predictor z (legal_predictor c.args.s.image c.args.s.predictor (storing_facts _ c.args.s _ c.requires).legal).bands_most in
     let v = c.loop-z.invariant in
     let d = done in
     let s = c in
@@ -49,7 +49,7 @@ overflow_add-first c =
 pub overflow_add-z : goal.overflow_add-z
 overflow_add-z c =
     let done : let a = c.args in AccumulatorsDone (unpack a.file.now) a.s (fixed_bits + c.weights_size-at.result) =
-      storing_done _ c.args.s _ c.weights_size-at.result c.requires c.weights_size-at.ensures.0 in
+    storing_done _ c.args.s _ c.weights_size-at.result c.requires c.weights_size-at.ensures.0 in
     omega (arith, c.loop-z.invariant.most, bands_few _ _ _ done)
 
 pub loop-z-smaller : goal.loop-z-smaller
@@ -64,5 +64,5 @@ shape_of-tables c = c.loop-z.invariant.long
 pub returns : goal.returns
 returns c =
     let done : let a = c.args in AccumulatorsDone (unpack a.file.now) a.s (fixed_bits + c.weights_size-at.result) =
-      storing_done _ c.args.s _ c.weights_size-at.result c.requires c.weights_size-at.ensures.0 in
+    storing_done _ c.args.s _ c.weights_size-at.result c.requires c.weights_size-at.ensures.0 in
     bands_all _ _ _ _ _ _ _ done c.loop-z.invariant (omega arith)

@@ -17,31 +17,31 @@ use Rattle.header_values.proofs.store.weight_at.Goals as goal
 pub overflow_add-first : goal.overflow_add-first
 overflow_add-first c =
     let there : WeightAt (unpack c.args.file.now) c.args.s c.args.at c.requires.0 c.args.i c.args.first =
-      weight_from _ c.args.s c.args.at c.requires.0 c.args.z c.args.i c.args.first c.requires.1 c.requires.2 c.requires.3 c.requires.4 in
+    weight_from _ c.args.s c.args.at c.requires.0 c.args.z c.args.i c.args.first c.requires.1 c.requires.2 c.requires.3 c.requires.4 in
     omega (arith, there.few)
 
 pub overflow_mul-q : goal.overflow_mul-q
 overflow_mul-q c =
     let there : WeightAt (unpack c.args.file.now) c.args.s c.args.at c.requires.0 c.args.i c.args.first =
-      weight_from _ c.args.s c.args.at c.requires.0 c.args.z c.args.i c.args.first c.requires.1 c.requires.2 c.requires.3 c.requires.4 in
+    weight_from _ c.args.s c.args.at c.requires.0 c.args.z c.args.i c.args.first c.requires.1 c.requires.2 c.requires.3 c.requires.4 in
     omega (arith, there.small)
 
 pub overflow_add-q : goal.overflow_add-q
 overflow_add-q c =
     let there : WeightAt (unpack c.args.file.now) c.args.s c.args.at c.requires.0 c.args.i c.args.first =
-      weight_from _ c.args.s c.args.at c.requires.0 c.args.z c.args.i c.args.first c.requires.1 c.requires.2 c.requires.3 c.requires.4 in
+    weight_from _ c.args.s c.args.at c.requires.0 c.args.z c.args.i c.args.first c.requires.1 c.requires.2 c.requires.3 c.requires.4 in
     omega (arith, there.small)
 
 pub number_at-requires : goal.number_at-requires
 number_at-requires c =
     let there : WeightAt (unpack c.args.file.now) c.args.s c.args.at c.requires.0 c.args.i c.args.first =
-      weight_from _ c.args.s c.args.at c.requires.0 c.args.z c.args.i c.args.first c.requires.1 c.requires.2 c.requires.3 c.requires.4 in
+    weight_from _ c.args.s c.args.at c.requires.0 c.args.z c.args.i c.args.first c.requires.1 c.requires.2 c.requires.3 c.requires.4 in
     let w = there in (w.least, omega (arith, w.most), omega (arith, w.small), w.room)
 
 pub signed_of-requires : goal.signed_of-requires
 signed_of-requires c =
     let there : WeightAt (unpack c.args.file.now) c.args.s c.args.at c.requires.0 c.args.i c.args.first =
-      weight_from _ c.args.s c.args.at c.requires.0 c.args.z c.args.i c.args.first c.requires.1 c.requires.2 c.requires.3 c.requires.4 in
+    weight_from _ c.args.s c.args.at c.requires.0 c.args.z c.args.i c.args.first c.requires.1 c.requires.2 c.requires.3 c.requires.4 in
     let a = c.args in
     let w = there in
     (w.least, w.most, subst (λ (n : ℕ). n < 2 ^ a.s.predictor.precision) (sym c.number_at.ensures) (number_take_lt a.s.predictor.precision (drop (predictor_end + a.s.predictor.precision * (a.first + a.i)) (unpack a.file.now))))

@@ -11,13 +11,13 @@ use Rattle.predictor_steps.proofs.mapping.map_by.Goals as goal
 pub overflow_add-result : goal.overflow_add-result
 overflow_add-result c =
     let m-is : c.magnitude-size.result ≡ nat_abs c.args.residual =
-      let f = c.ranges.residual in simp to_z-of_z at c.magnitude-size.ensures in
+    let f = c.ranges.residual in simp to_z-of_z at c.magnitude-size.ensures in
     omega (arith, m-is)
 
 pub overflow_sub-result : goal.overflow_sub-result
 overflow_sub-result c =
     let m-is : c.magnitude-size.result ≡ nat_abs c.args.residual =
-      let f = c.ranges.residual in simp to_z-of_z at c.magnitude-size.ensures in
+    let f = c.ranges.residual in simp to_z-of_z at c.magnitude-size.ensures in
     let s = c in
     let f = c.ranges.residual in
     let t = simp to_z-of_z at c.if-residual-lt0.true in
@@ -26,7 +26,7 @@ overflow_sub-result c =
 pub overflow_sub-result-then-residual-gt0 : goal.overflow_sub-result-then-residual-gt0
 overflow_sub-result-then-residual-gt0 c =
     let m-is : c.magnitude-size.result ≡ nat_abs c.args.residual =
-      let f = c.ranges.residual in simp to_z-of_z at c.magnitude-size.ensures in
+    let f = c.ranges.residual in simp to_z-of_z at c.magnitude-size.ensures in
     let s = c in
     let f = c.ranges.residual in
     let t = simp to_z-of_z at c.if-residual-gt0.true in
@@ -35,7 +35,7 @@ overflow_sub-result-then-residual-gt0 c =
 pub returns-then-distance-size : goal.returns-then-distance-size
 returns-then-distance-size c =
     let m-is : c.magnitude-size.result ≡ nat_abs c.args.residual =
-      let f = c.ranges.residual in simp to_z-of_z at c.magnitude-size.ensures in
+    let f = c.ranges.residual in simp to_z-of_z at c.magnitude-size.ensures in
     let s = c in
     let m = m-is in
     rw m (sym (far c.args.even c.args.residual c.args.distance (omega arith)))
@@ -43,7 +43,7 @@ returns-then-distance-size c =
 pub returns-then-residual-lt0 : goal.returns-then-residual-lt0
 returns-then-residual-lt0 c =
     let m-is : c.magnitude-size.result ≡ nat_abs c.args.residual =
-      let f = c.ranges.residual in simp to_z-of_z at c.magnitude-size.ensures in
+    let f = c.ranges.residual in simp to_z-of_z at c.magnitude-size.ensures in
     let s = c in
     let f = c.ranges.residual in
     let m = m-is in
@@ -52,7 +52,7 @@ returns-then-residual-lt0 c =
 pub returns-else-residual-lt0 : goal.returns-else-residual-lt0
 returns-else-residual-lt0 c =
     let m-is : c.magnitude-size.result ≡ nat_abs c.args.residual =
-      let f = c.ranges.residual in simp to_z-of_z at c.magnitude-size.ensures in
+    let f = c.ranges.residual in simp to_z-of_z at c.magnitude-size.ensures in
     let s = c in
     let f = c.ranges.residual in
     let m = m-is in
@@ -61,7 +61,7 @@ returns-else-residual-lt0 c =
 pub returns-then-residual-gt0 : goal.returns-then-residual-gt0
 returns-then-residual-gt0 c =
     let m-is : c.magnitude-size.result ≡ nat_abs c.args.residual =
-      let f = c.ranges.residual in simp to_z-of_z at c.magnitude-size.ensures in
+    let f = c.ranges.residual in simp to_z-of_z at c.magnitude-size.ensures in
     let s = c in
     let f = c.ranges.residual in
     let m = m-is in
@@ -70,7 +70,7 @@ returns-then-residual-gt0 c =
 pub returns-else-residual-gt0 : goal.returns-else-residual-gt0
 returns-else-residual-gt0 c =
     let m-is : c.magnitude-size.result ≡ nat_abs c.args.residual =
-      let f = c.ranges.residual in simp to_z-of_z at c.magnitude-size.ensures in
+    let f = c.ranges.residual in simp to_z-of_z at c.magnitude-size.ensures in
     let s = c in
     let f = c.ranges.residual in
     let m = m-is in

@@ -23,11 +23,11 @@ overflow_cast-high c = search (to_z-of_z, wide)
 pub theta-distance-requires : goal.theta-distance-requires
 theta-distance-requires c =
     let p-is : c.predicted-prediction.result ≡ floor_div c.args.scaled 2 =
-      let f = c.ranges.scaled in simp to_z-of_z at c.predicted-prediction.ensures in
+    let f = c.ranges.scaled in simp to_z-of_z at c.predicted-prediction.ensures in
     let p-size : nat_abs c.predicted-prediction.result ≤ 2 ^ 29 =
-      let t = c.args.scaled in
-      let q = floor_div t 2 in
-      rw p-is (omega (arith, floor t 2 (lit< tt), abs_parts t, abs_parts q, one0 q, one0 t)) in
+    let t = c.args.scaled in
+    let q = floor_div t 2 in
+    rw p-is (omega (arith, floor t 2 (lit< tt), abs_parts t, abs_parts q, one0 q, one0 t)) in
     let s = c in
     let h = p-size in
     simp (to_z-of_z, c.ranges.low, c.ranges.high, wide c.ranges.low, wide c.ranges.high, ok w64 c.predicted-prediction.result c.predicted-prediction.type_inv)
@@ -39,50 +39,50 @@ overflow_cast-residual c = search (to_z-of_z, wide)
 pub overflow_sub-residual : goal.overflow_sub-residual
 overflow_sub-residual c =
     let p-is : c.predicted-prediction.result ≡ floor_div c.args.scaled 2 =
-      let f = c.ranges.scaled in simp to_z-of_z at c.predicted-prediction.ensures in
+    let f = c.ranges.scaled in simp to_z-of_z at c.predicted-prediction.ensures in
     let p-size : nat_abs c.predicted-prediction.result ≤ 2 ^ 29 =
-      let t = c.args.scaled in
-      let q = floor_div t 2 in
-      rw p-is (omega (arith, floor t 2 (lit< tt), abs_parts t, abs_parts q, one0 q, one0 t)) in
+    let t = c.args.scaled in
+    let q = floor_div t 2 in
+    rw p-is (omega (arith, floor t 2 (lit< tt), abs_parts t, abs_parts q, one0 q, one0 t)) in
     let d-size : nat_abs (c.args.sample -ℤ c.predicted-prediction.result) ≤ 2 ^ 30 =
-      let s = c.args.sample in
-      let p = c.predicted-prediction.result in
-      omega (arith, sub s p, abs_parts s, abs_parts p, abs_parts (s -ℤ p), p-size) in
+    let s = c.args.sample in
+    let p = c.predicted-prediction.result in
+    omega (arith, sub s p, abs_parts s, abs_parts p, abs_parts (s -ℤ p), p-size) in
     let d-fits : SFits w64 (c.args.sample -ℤ c.predicted-prediction.result) =
-      let d = c.args.sample -ℤ c.predicted-prediction.result in
-      let h = d-size in
-      omega (zs, abs_parts d) in
+    let d = c.args.sample -ℤ c.predicted-prediction.result in
+    let h = d-size in
+    omega (zs, abs_parts d) in
     let f = c.ranges.sample in
     simp (to_z-of_z, f, wide f, ok w64 c.predicted-prediction.result c.predicted-prediction.type_inv) d-fits
 
 pub map_by-requires : goal.map_by-requires
 map_by-requires c =
     let p-is : c.predicted-prediction.result ≡ floor_div c.args.scaled 2 =
-      let f = c.ranges.scaled in simp to_z-of_z at c.predicted-prediction.ensures in
+    let f = c.ranges.scaled in simp to_z-of_z at c.predicted-prediction.ensures in
     let p-size : nat_abs c.predicted-prediction.result ≤ 2 ^ 29 =
-      let t = c.args.scaled in
-      let q = floor_div t 2 in
-      rw p-is (omega (arith, floor t 2 (lit< tt), abs_parts t, abs_parts q, one0 q, one0 t)) in
+    let t = c.args.scaled in
+    let q = floor_div t 2 in
+    rw p-is (omega (arith, floor t 2 (lit< tt), abs_parts t, abs_parts q, one0 q, one0 t)) in
     let t-is : c.theta-distance.result ≡ theta c.args.low c.args.high c.predicted-prediction.result =
-      let s = c in
-      simp (
-        to_z-of_z,
-        c.ranges.low,
-        c.ranges.high,
-        wide c.ranges.low,
-        wide c.ranges.high,
-        ok w64 c.predicted-prediction.result
-            c.predicted-prediction.type_inv,
-      ) at
-      c.theta-distance.ensures in
+    let s = c in
+    simp (
+      to_z-of_z,
+      c.ranges.low,
+      c.ranges.high,
+      wide c.ranges.low,
+      wide c.ranges.high,
+      ok w64 c.predicted-prediction.result
+          c.predicted-prediction.type_inv,
+    ) at
+    c.theta-distance.ensures in
     let d-size : nat_abs (c.args.sample -ℤ c.predicted-prediction.result) ≤ 2 ^ 30 =
-      let s = c.args.sample in
-      let p = c.predicted-prediction.result in
-      omega (arith, sub s p, abs_parts s, abs_parts p, abs_parts (s -ℤ p), p-size) in
+    let s = c.args.sample in
+    let p = c.predicted-prediction.result in
+    omega (arith, sub s p, abs_parts s, abs_parts p, abs_parts (s -ℤ p), p-size) in
     let d-fits : SFits w64 (c.args.sample -ℤ c.predicted-prediction.result) =
-      let d = c.args.sample -ℤ c.predicted-prediction.result in
-      let h = d-size in
-      omega (zs, abs_parts d) in
+    let d = c.args.sample -ℤ c.predicted-prediction.result in
+    let h = d-size in
+    omega (zs, abs_parts d) in
     let s = c in
     let f = c.ranges.sample in
     let h = d-size in
@@ -94,42 +94,42 @@ map_by-requires c =
 pub overflow_cast-result : goal.overflow_cast-result
 overflow_cast-result c =
     let p-is : c.predicted-prediction.result ≡ floor_div c.args.scaled 2 =
-      let f = c.ranges.scaled in simp to_z-of_z at c.predicted-prediction.ensures in
+    let f = c.ranges.scaled in simp to_z-of_z at c.predicted-prediction.ensures in
     let p-size : nat_abs c.predicted-prediction.result ≤ 2 ^ 29 =
-      let t = c.args.scaled in
-      let q = floor_div t 2 in
-      rw p-is (omega (arith, floor t 2 (lit< tt), abs_parts t, abs_parts q, one0 q, one0 t)) in
+    let t = c.args.scaled in
+    let q = floor_div t 2 in
+    rw p-is (omega (arith, floor t 2 (lit< tt), abs_parts t, abs_parts q, one0 q, one0 t)) in
     let t-is : c.theta-distance.result ≡ theta c.args.low c.args.high c.predicted-prediction.result =
-      let s = c in
-      simp (
-        to_z-of_z,
-        c.ranges.low,
-        c.ranges.high,
-        wide c.ranges.low,
-        wide c.ranges.high,
-        ok w64 c.predicted-prediction.result
-            c.predicted-prediction.type_inv,
-      ) at
-      c.theta-distance.ensures in
+    let s = c in
+    simp (
+      to_z-of_z,
+      c.ranges.low,
+      c.ranges.high,
+      wide c.ranges.low,
+      wide c.ranges.high,
+      ok w64 c.predicted-prediction.result
+          c.predicted-prediction.type_inv,
+    ) at
+    c.theta-distance.ensures in
     let d-size : nat_abs (c.args.sample -ℤ c.predicted-prediction.result) ≤ 2 ^ 30 =
-      let s = c.args.sample in
-      let p = c.predicted-prediction.result in
-      omega (arith, sub s p, abs_parts s, abs_parts p, abs_parts (s -ℤ p), p-size) in
+    let s = c.args.sample in
+    let p = c.predicted-prediction.result in
+    omega (arith, sub s p, abs_parts s, abs_parts p, abs_parts (s -ℤ p), p-size) in
     let d-fits : SFits w64 (c.args.sample -ℤ c.predicted-prediction.result) =
-      let d = c.args.sample -ℤ c.predicted-prediction.result in
-      let h = d-size in
-      omega (zs, abs_parts d) in
+    let d = c.args.sample -ℤ c.predicted-prediction.result in
+    let h = d-size in
+    omega (zs, abs_parts d) in
     let m-is : c.map_by.result ≡ map_residual c.is_even-even.result
     (c.args.sample -ℤ c.predicted-prediction.result) c.theta-distance.result =
-      let f = c.ranges.sample in
-      simp (
-        to_z-of_z,
-        f,
-        wide f,
-        ok w64 c.predicted-prediction.result c.predicted-prediction.type_inv,
-        d-fits,
-      ) at
-      c.map_by.ensures in
+    let f = c.ranges.sample in
+    simp (
+      to_z-of_z,
+      f,
+      wide f,
+      ok w64 c.predicted-prediction.result c.predicted-prediction.type_inv,
+      d-fits,
+    ) at
+    c.map_by.ensures in
     let s = c in
     let p = c.predicted-prediction.result in
     let d = c.args.sample -ℤ p in
@@ -148,42 +148,42 @@ pub returns : goal.returns
 unfolding mapped_by
 returns c =
     let p-is : c.predicted-prediction.result ≡ floor_div c.args.scaled 2 =
-      let f = c.ranges.scaled in simp to_z-of_z at c.predicted-prediction.ensures in
+    let f = c.ranges.scaled in simp to_z-of_z at c.predicted-prediction.ensures in
     let t-is : c.theta-distance.result ≡ theta c.args.low c.args.high c.predicted-prediction.result =
-      let s = c in
-      simp (
-        to_z-of_z,
-        c.ranges.low,
-        c.ranges.high,
-        wide c.ranges.low,
-        wide c.ranges.high,
-        ok w64 c.predicted-prediction.result
-            c.predicted-prediction.type_inv,
-      ) at
-      c.theta-distance.ensures in
+    let s = c in
+    simp (
+      to_z-of_z,
+      c.ranges.low,
+      c.ranges.high,
+      wide c.ranges.low,
+      wide c.ranges.high,
+      ok w64 c.predicted-prediction.result
+          c.predicted-prediction.type_inv,
+    ) at
+    c.theta-distance.ensures in
     let e-is : c.is_even-even.result ≡ is_even c.args.scaled =
-      let f = c.ranges.scaled in simp to_z-of_z at c.is_even-even.ensures in
+    let f = c.ranges.scaled in simp to_z-of_z at c.is_even-even.ensures in
     let p-size : nat_abs c.predicted-prediction.result ≤ 2 ^ 29 =
-      let t = c.args.scaled in
-      let q = floor_div t 2 in
-      rw p-is (omega (arith, floor t 2 (lit< tt), abs_parts t, abs_parts q, one0 q, one0 t)) in
+    let t = c.args.scaled in
+    let q = floor_div t 2 in
+    rw p-is (omega (arith, floor t 2 (lit< tt), abs_parts t, abs_parts q, one0 q, one0 t)) in
     let d-size : nat_abs (c.args.sample -ℤ c.predicted-prediction.result) ≤ 2 ^ 30 =
-      let s = c.args.sample in
-      let p = c.predicted-prediction.result in
-      omega (arith, sub s p, abs_parts s, abs_parts p, abs_parts (s -ℤ p), p-size) in
+    let s = c.args.sample in
+    let p = c.predicted-prediction.result in
+    omega (arith, sub s p, abs_parts s, abs_parts p, abs_parts (s -ℤ p), p-size) in
     let d-fits : SFits w64 (c.args.sample -ℤ c.predicted-prediction.result) =
-      let d = c.args.sample -ℤ c.predicted-prediction.result in
-      let h = d-size in
-      omega (zs, abs_parts d) in
+    let d = c.args.sample -ℤ c.predicted-prediction.result in
+    let h = d-size in
+    omega (zs, abs_parts d) in
     let m-is : c.map_by.result ≡ map_residual c.is_even-even.result
     (c.args.sample -ℤ c.predicted-prediction.result) c.theta-distance.result =
-      let f = c.ranges.sample in
-      simp (
-        to_z-of_z,
-        f,
-        wide f,
-        ok w64 c.predicted-prediction.result c.predicted-prediction.type_inv,
-        d-fits,
-      ) at
-      c.map_by.ensures in
+    let f = c.ranges.sample in
+    simp (
+      to_z-of_z,
+      f,
+      wide f,
+      ok w64 c.predicted-prediction.result c.predicted-prediction.type_inv,
+      d-fits,
+    ) at
+    c.map_by.ensures in
     m-is ∙ rw (e-is, t-is, p-is)

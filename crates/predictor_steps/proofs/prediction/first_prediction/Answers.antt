@@ -21,37 +21,37 @@ overflow_mul-area c = let h = area_small c.requires.given in omega arith
 pub overflow_mul-at : goal.overflow_mul-at
 overflow_mul-at c =
     let inside-before : let a = c.args in (a.z - 1) * area a.s < length a.image.now =
-      before_in c.requires c.if-z-gt0.true in
+    before_in c.requires c.if-z-gt0.true in
     let h = inside-before in omega arith
 
 pub offset_bounds-image-at : goal.offset_bounds-image-at
 offset_bounds-image-at c =
     let inside-before : let a = c.args in (a.z - 1) * area a.s < length a.image.now =
-      before_in c.requires c.if-z-gt0.true in
+    before_in c.requires c.if-z-gt0.true in
     let h = inside-before in omega arith
 
 pub bounds-image-at : goal.bounds-image-at
 bounds-image-at c =
     let inside-before : let a = c.args in (a.z - 1) * area a.s < length a.image.now =
-      before_in c.requires c.if-z-gt0.true in
+    before_in c.requires c.if-z-gt0.true in
     inside-before
 
 pub overflow_cast-result : goal.overflow_cast-result
 overflow_cast-result c =
     let before-fits : let a = c.args in Twice (get_or a.image.now ((a.z - 1) * area a.s) (pos 0)) =
-      twice_fits _ (ok w32 _ c.result-1.given) in
+    twice_fits _ (ok w32 _ c.result-1.given) in
     search (to_z-of_z, before-fits)
 
 pub overflow_mul-result : goal.overflow_mul-result
 overflow_mul-result c =
     let before-fits : let a = c.args in Twice (get_or a.image.now ((a.z - 1) * area a.s) (pos 0)) =
-      twice_fits _ (ok w32 _ c.result-1.given) in
+    twice_fits _ (ok w32 _ c.result-1.given) in
     search (to_z-of_z, before-fits)
 
 pub returns-then-s-gt0 : goal.returns-then-s-gt0
 returns-then-s-gt0 c =
     let before-fits : let a = c.args in Twice (get_or a.image.now ((a.z - 1) * area a.s) (pos 0)) =
-      twice_fits _ (ok w32 _ c.result-1.given) in
+    twice_fits _ (ok w32 _ c.result-1.given) in
     let s = c in
     let f = before-fits in
     simp (to_z-of_z, f.x_32, f.x_64, f.r)
@@ -60,19 +60,19 @@ returns-then-s-gt0 c =
 pub overflow_cast-result-2 : goal.overflow_cast-result-2
 overflow_cast-result-2 c =
     let middle_fits : Twice c.args.middle =
-      twice_fits c.args.middle c.ranges.middle in
+    twice_fits c.args.middle c.ranges.middle in
     search (to_z-of_z, middle_fits)
 
 pub overflow_mul-result-2 : goal.overflow_mul-result-2
 overflow_mul-result-2 c =
     let middle_fits : Twice c.args.middle =
-      twice_fits c.args.middle c.ranges.middle in
+    twice_fits c.args.middle c.ranges.middle in
     search (to_z-of_z, middle_fits)
 
 pub returns : goal.returns
 returns c =
     let middle_fits : Twice c.args.middle =
-      twice_fits c.args.middle c.ranges.middle in
+    twice_fits c.args.middle c.ranges.middle in
     let p = c.requires in
     let f = middle_fits in
     simp (to_z-of_z, f.x_32, f.x_64, f.r)

@@ -40,33 +40,33 @@ pub overflow_cast-sum-in-loop-i : goal.overflow_cast-sum-in-loop-i
 overflow_cast-sum-in-loop-i c =
     let facts : let s = c in let i = c.loop-i.i in
     Turn (to_z w64 c.loop-i.sum-bits) (get_or c.args.ws.now i (pos 0)) (get_or c.args.us.now i (pos 0)) i =
-      let s = c in
-      let i = c.loop-i.i in
-      turn (to_z w64 c.loop-i.sum-bits) (get_or c.args.ws.now i (pos 0)) (get_or c.args.us.now i (pos 0)) i
-      (omega arith) c.loop-i.invariant.1 (small_at c.args.ws.now i c.requires.ws_small)
-      (small_at c.args.us.now i c.requires.us_small) in
+    let s = c in
+    let i = c.loop-i.i in
+    turn (to_z w64 c.loop-i.sum-bits) (get_or c.args.ws.now i (pos 0)) (get_or c.args.us.now i (pos 0)) i
+    (omega arith) c.loop-i.invariant.1 (small_at c.args.ws.now i c.requires.ws_small)
+    (small_at c.args.us.now i c.requires.us_small) in
     simp (to_z-of_z, facts.y32) facts.y64
 
 pub overflow_mul-sum : goal.overflow_mul-sum
 overflow_mul-sum c =
     let facts : let s = c in let i = c.loop-i.i in
     Turn (to_z w64 c.loop-i.sum-bits) (get_or c.args.ws.now i (pos 0)) (get_or c.args.us.now i (pos 0)) i =
-      let s = c in
-      let i = c.loop-i.i in
-      turn (to_z w64 c.loop-i.sum-bits) (get_or c.args.ws.now i (pos 0)) (get_or c.args.us.now i (pos 0)) i
-      (omega arith) c.loop-i.invariant.1 (small_at c.args.ws.now i c.requires.ws_small)
-      (small_at c.args.us.now i c.requires.us_small) in
+    let s = c in
+    let i = c.loop-i.i in
+    turn (to_z w64 c.loop-i.sum-bits) (get_or c.args.ws.now i (pos 0)) (get_or c.args.us.now i (pos 0)) i
+    (omega arith) c.loop-i.invariant.1 (small_at c.args.ws.now i c.requires.ws_small)
+    (small_at c.args.us.now i c.requires.us_small) in
     simp (to_z-of_z, facts.x32, facts.y32, facts.x64, facts.y64) facts.xy
 
 pub overflow_add-sum : goal.overflow_add-sum
 overflow_add-sum c =
     let facts : let s = c in let i = c.loop-i.i in
     Turn (to_z w64 c.loop-i.sum-bits) (get_or c.args.ws.now i (pos 0)) (get_or c.args.us.now i (pos 0)) i =
-      let s = c in
-      let i = c.loop-i.i in
-      turn (to_z w64 c.loop-i.sum-bits) (get_or c.args.ws.now i (pos 0)) (get_or c.args.us.now i (pos 0)) i
-      (omega arith) c.loop-i.invariant.1 (small_at c.args.ws.now i c.requires.ws_small)
-      (small_at c.args.us.now i c.requires.us_small) in
+    let s = c in
+    let i = c.loop-i.i in
+    turn (to_z w64 c.loop-i.sum-bits) (get_or c.args.ws.now i (pos 0)) (get_or c.args.us.now i (pos 0)) i
+    (omega arith) c.loop-i.invariant.1 (small_at c.args.ws.now i c.requires.ws_small)
+    (small_at c.args.us.now i c.requires.us_small) in
     simp (to_z-of_z, facts.x32, facts.y32, facts.x64, facts.y64, facts.xy) facts.more
 
 pub overflow_add-i : goal.overflow_add-i
@@ -79,11 +79,11 @@ pub loop-i-preserved : goal.loop-i-preserved
 loop-i-preserved c =
     let facts : let s = c in let i = c.loop-i.i in
     Turn (to_z w64 c.loop-i.sum-bits) (get_or c.args.ws.now i (pos 0)) (get_or c.args.us.now i (pos 0)) i =
-      let s = c in
-      let i = c.loop-i.i in
-      turn (to_z w64 c.loop-i.sum-bits) (get_or c.args.ws.now i (pos 0)) (get_or c.args.us.now i (pos 0)) i
-      (omega arith) c.loop-i.invariant.1 (small_at c.args.ws.now i c.requires.ws_small)
-      (small_at c.args.us.now i c.requires.us_small) in
+    let s = c in
+    let i = c.loop-i.i in
+    turn (to_z w64 c.loop-i.sum-bits) (get_or c.args.ws.now i (pos 0)) (get_or c.args.us.now i (pos 0)) i
+    (omega arith) c.loop-i.invariant.1 (small_at c.args.ws.now i c.requires.ws_small)
+    (small_at c.args.us.now i c.requires.us_small) in
     let s = c in
     let i = c.loop-i.i in
     let f = facts in

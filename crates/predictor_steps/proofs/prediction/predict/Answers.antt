@@ -16,18 +16,18 @@ use Rattle.predictor_steps.proofs.prediction.predict.Goals as goal
 pub overflow_add-product : goal.overflow_add-product
 overflow_add-product c =
     let d-is : P c.inner-product.result + N c.inner-product.result ≤ 18 * 2 ^ 40 =
-      let s = c in rw c.inner-product.ensures (inner_small c.args.ws.now c.args.us.now c.requires.pairs) in
+    let s = c in rw c.inner-product.ensures (inner_small c.args.ws.now c.args.us.now c.requires.pairs) in
     let sum_fits : SFits w64 (c.inner-product.result +ℤ c.offset-above.result) =
-      omega (zs, add c.inner-product.result c.offset-above.result, d-is, abs_parts c.offset-above.result, c.offset-above.ensures.1) in
+    omega (zs, add c.inner-product.result c.offset-above.result, d-is, abs_parts c.offset-above.result, c.offset-above.ensures.1) in
     simp (to_z-of_z, ok w64 c.inner-product.result c.inner-product.type_inv, ok w64 c.offset-above.result c.offset-above.type_inv) sum_fits
 
 pub returns : goal.returns
 unfolding scaled_by
 returns c =
     let d-is : P c.inner-product.result + N c.inner-product.result ≤ 18 * 2 ^ 40 =
-      let s = c in rw c.inner-product.ensures (inner_small c.args.ws.now c.args.us.now c.requires.pairs) in
+    let s = c in rw c.inner-product.ensures (inner_small c.args.ws.now c.args.us.now c.requires.pairs) in
     let sum_fits : SFits w64 (c.inner-product.result +ℤ c.offset-above.result) =
-      omega (zs, add c.inner-product.result c.offset-above.result, d-is, abs_parts c.offset-above.result, c.offset-above.ensures.1) in
+    omega (zs, add c.inner-product.result c.offset-above.result, d-is, abs_parts c.offset-above.result, c.offset-above.ensures.1) in
     let s = c in
     let a = c.args in
     let d = c.inner-product in

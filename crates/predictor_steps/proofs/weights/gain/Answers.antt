@@ -25,7 +25,7 @@ power-requires c = let f = c.ranges.rho in simp to_z-of_z (omega arith)
 pub overflow_add-result : goal.overflow_add-result
 overflow_add-result c =
     let p-is : c.power.result ≡ pos (2 ^ nat_abs c.args.rho) =
-      let f = c.ranges.rho in simp to_z-of_z at c.power.ensures in
+    let f = c.ranges.rho in simp to_z-of_z at c.power.ensures in
     let s = c in
     simp (to_z-of_z, c.ranges.v, ok w64 c.power.result c.power.type_inv)
     (sum_fits c.args.v c.power.result (nat_abs c.args.rho) c.requires.0 c.requires.1 p-is)
@@ -67,30 +67,30 @@ power-requires-else-rho-ge0 c =
 pub overflow_mul-result : goal.overflow_mul-result
 overflow_mul-result c =
     let q-is : c.power-else-rho-ge0.result ≡ pos (2 ^ nat_abs (pos 0 -ℤ c.args.rho)) =
-      let s = c in
-      let rho = c.args.rho in
-      let f = c.ranges.rho in
-      let g : SFits w32 (pos 0 -ℤ rho) = omega (zs, sub (pos 0) rho, abs_parts rho) in
-      simp to_z-of_z at c.power-else-rho-ge0.ensures in
+    let s = c in
+    let rho = c.args.rho in
+    let f = c.ranges.rho in
+    let g : SFits w32 (pos 0 -ℤ rho) = omega (zs, sub (pos 0) rho, abs_parts rho) in
+    simp to_z-of_z at c.power-else-rho-ge0.ensures in
     let small : P (c.power-else-rho-ge0.result *ℤ c.args.v) + N (c.power-else-rho-ge0.result *ℤ c.args.v) ≤ 2 ^ 49 =
-      let s = c in
-      product_small c.args.v c.power-else-rho-ge0.result (nat_abs (pos 0 -ℤ c.args.rho)) c.requires.0 (turned_small c.args.rho c.requires.1)
-      q-is in
+    let s = c in
+    product_small c.args.v c.power-else-rho-ge0.result (nat_abs (pos 0 -ℤ c.args.rho)) c.requires.0 (turned_small c.args.rho c.requires.1)
+    q-is in
     let h = small in
     simp (to_z-of_z, c.ranges.v, ok w64 c.power-else-rho-ge0.result c.power-else-rho-ge0.type_inv) (omega zs)
 
 pub overflow_add-result-else-rho-ge0 : goal.overflow_add-result-else-rho-ge0
 overflow_add-result-else-rho-ge0 c =
     let q-is : c.power-else-rho-ge0.result ≡ pos (2 ^ nat_abs (pos 0 -ℤ c.args.rho)) =
-      let s = c in
-      let rho = c.args.rho in
-      let f = c.ranges.rho in
-      let g : SFits w32 (pos 0 -ℤ rho) = omega (zs, sub (pos 0) rho, abs_parts rho) in
-      simp to_z-of_z at c.power-else-rho-ge0.ensures in
+    let s = c in
+    let rho = c.args.rho in
+    let f = c.ranges.rho in
+    let g : SFits w32 (pos 0 -ℤ rho) = omega (zs, sub (pos 0) rho, abs_parts rho) in
+    simp to_z-of_z at c.power-else-rho-ge0.ensures in
     let small : P (c.power-else-rho-ge0.result *ℤ c.args.v) + N (c.power-else-rho-ge0.result *ℤ c.args.v) ≤ 2 ^ 49 =
-      let s = c in
-      product_small c.args.v c.power-else-rho-ge0.result (nat_abs (pos 0 -ℤ c.args.rho)) c.requires.0 (turned_small c.args.rho c.requires.1)
-      q-is in
+    let s = c in
+    product_small c.args.v c.power-else-rho-ge0.result (nat_abs (pos 0 -ℤ c.args.rho)) c.requires.0 (turned_small c.args.rho c.requires.1)
+    q-is in
     let h = small in
     let m = c.power-else-rho-ge0.result *ℤ c.args.v in
     let f : SFits w64 m = omega zs in
@@ -99,7 +99,7 @@ overflow_add-result-else-rho-ge0 c =
 pub returns-then-rho-ge0 : goal.returns-then-rho-ge0
 returns-then-rho-ge0 c =
     let p-is : c.power.result ≡ pos (2 ^ nat_abs c.args.rho) =
-      let f = c.ranges.rho in simp to_z-of_z at c.power.ensures in
+    let f = c.ranges.rho in simp to_z-of_z at c.power.ensures in
     let s = c in
     let rho = c.args.rho in
     let fr = c.ranges.rho in
@@ -114,15 +114,15 @@ returns-then-rho-ge0 c =
 pub returns-else-rho-ge0 : goal.returns-else-rho-ge0
 returns-else-rho-ge0 c =
     let q-is : c.power-else-rho-ge0.result ≡ pos (2 ^ nat_abs (pos 0 -ℤ c.args.rho)) =
-      let s = c in
-      let rho = c.args.rho in
-      let f = c.ranges.rho in
-      let g : SFits w32 (pos 0 -ℤ rho) = omega (zs, sub (pos 0) rho, abs_parts rho) in
-      simp to_z-of_z at c.power-else-rho-ge0.ensures in
+    let s = c in
+    let rho = c.args.rho in
+    let f = c.ranges.rho in
+    let g : SFits w32 (pos 0 -ℤ rho) = omega (zs, sub (pos 0) rho, abs_parts rho) in
+    simp to_z-of_z at c.power-else-rho-ge0.ensures in
     let small : P (c.power-else-rho-ge0.result *ℤ c.args.v) + N (c.power-else-rho-ge0.result *ℤ c.args.v) ≤ 2 ^ 49 =
-      let s = c in
-      product_small c.args.v c.power-else-rho-ge0.result (nat_abs (pos 0 -ℤ c.args.rho)) c.requires.0 (turned_small c.args.rho c.requires.1)
-      q-is in
+    let s = c in
+    product_small c.args.v c.power-else-rho-ge0.result (nat_abs (pos 0 -ℤ c.args.rho)) c.requires.0 (turned_small c.args.rho c.requires.1)
+    q-is in
     let s = c in
     let rho = c.args.rho in
     let fr = c.ranges.rho in

@@ -25,15 +25,15 @@ power_of-requires c = let h = resolution_most c.requires in omega arith
 pub overflow_mul-first : goal.overflow_mul-first
 overflow_mul-first c =
     let first_small : c.power_of.result ≤ 2 ^ 19 =
-      let m : 2 ^ c.args.s.predictor.resolution ≤ 2 ^ 19 = pow_mono (resolution_most c.requires) in
-      let e = c.power_of.ensures in omega arith in
+    let m : 2 ^ c.args.s.predictor.resolution ≤ 2 ^ 19 = pow_mono (resolution_most c.requires) in
+    let e = c.power_of.ensures in omega arith in
     let h = first_small in omega arith
 
 pub put_eighths-requires : goal.put_eighths-requires
 put_eighths-requires c =
     let first_small : c.power_of.result ≤ 2 ^ 19 =
-      let m : 2 ^ c.args.s.predictor.resolution ≤ 2 ^ 19 = pow_mono (resolution_most c.requires) in
-      let e = c.power_of.ensures in omega arith in
+    let m : 2 ^ c.args.s.predictor.resolution ≤ 2 ^ 19 = pow_mono (resolution_most c.requires) in
+    let e = c.power_of.ensures in omega arith in
     let h = first_small in omega arith
 
 pub returns-then-reduced : goal.returns-then-reduced
@@ -53,32 +53,32 @@ slice_bounds-put_eighths-end-2 c =
 pub slice_bounds-put_eighths-count : goal.slice_bounds-put_eighths-count
 slice_bounds-put_eighths-count c =
     let zeros : c.put_eighths-2.new.ws ≡ pos 0 ∷ pos 0 ∷ pos 0 ∷ [] =
-      let s = c in
-      zero_eighths c.put_eighths-2.new.ws _ (length-take-le 3 c.args.ws.now (full_long c.requires c.if-reduced.false))
-      c.put_eighths-2.ensures in
+    let s = c in
+    zero_eighths c.put_eighths-2.new.ws _ (length-take-le 3 c.args.ws.now (full_long c.requires c.if-reduced.false))
+    c.put_eighths-2.ensures in
     rw (length-append c.put_eighths-2.new.ws _, ap length zeros) (omega arith)
 
 pub slice_bounds-put_eighths-start : goal.slice_bounds-put_eighths-start
 slice_bounds-put_eighths-start c =
     let zeros : c.put_eighths-2.new.ws ≡ pos 0 ∷ pos 0 ∷ pos 0 ∷ [] =
-      let s = c in
-      zero_eighths c.put_eighths-2.new.ws _ (length-take-le 3 c.args.ws.now (full_long c.requires c.if-reduced.false))
-      c.put_eighths-2.ensures in
+    let s = c in
+    zero_eighths c.put_eighths-2.new.ws _ (length-take-le 3 c.args.ws.now (full_long c.requires c.if-reduced.false))
+    c.put_eighths-2.ensures in
     rw (length-append c.put_eighths-2.new.ws _, ap length zeros) (omega arith)
 
 pub put_eighths-requires-3 : goal.put_eighths-requires-3
 put_eighths-requires-3 c =
     let first_small : c.power_of.result ≤ 2 ^ 19 =
-      let m : 2 ^ c.args.s.predictor.resolution ≤ 2 ^ 19 = pow_mono (resolution_most c.requires) in
-      let e = c.power_of.ensures in omega arith in
+    let m : 2 ^ c.args.s.predictor.resolution ≤ 2 ^ 19 = pow_mono (resolution_most c.requires) in
+    let e = c.power_of.ensures in omega arith in
     let h = first_small in omega arith
 
 pub returns : goal.returns
 returns c =
     let zeros : c.put_eighths-2.new.ws ≡ pos 0 ∷ pos 0 ∷ pos 0 ∷ [] =
-      let s = c in
-      zero_eighths c.put_eighths-2.new.ws _ (length-take-le 3 c.args.ws.now (full_long c.requires c.if-reduced.false))
-      c.put_eighths-2.ensures in
+    let s = c in
+    zero_eighths c.put_eighths-2.new.ws _ (length-take-le 3 c.args.ws.now (full_long c.requires c.if-reduced.false))
+    c.put_eighths-2.ensures in
     let s = c in
     let p = c.power_of in
     full_begin c.requires p.result c.if-custom.false p.ensures

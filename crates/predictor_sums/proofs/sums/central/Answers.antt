@@ -29,11 +29,11 @@ bounds-here-at c =
 pub difference-requires : goal.difference-requires
 difference-requires c =
     let around : Neighbours =
-      let a = c.args in fetched a.above.now a.north a.here.now a.at (position_of a.position) in
+    let a = c.args in fetched a.above.now a.north a.here.now a.at (position_of a.position) in
     let sum_is : let s = c in
     c.local_sum-sum.result ≡ local_sum c.args.column (position_of c.args.position) around =
-      let a = c.args in
-      c.local_sum-sum.ensures ∙ ap (λ (n : Neighbours). local_sum a.column (position_of a.position) n) c.fetch-around.ensures in
+    let a = c.args in
+    c.local_sum-sum.ensures ∙ ap (λ (n : Neighbours). local_sum a.column (position_of a.position) n) c.fetch-around.ensures in
     let s = c in
     let a = c.args in
     let q = c.requires in
@@ -46,11 +46,11 @@ difference-requires c =
 pub returns-then-position-column : goal.returns-then-position-column
 returns-then-position-column c =
     let around : Neighbours =
-      let a = c.args in fetched a.above.now a.north a.here.now a.at (position_of a.position) in
+    let a = c.args in fetched a.above.now a.north a.here.now a.at (position_of a.position) in
     let sum_is : let s = c in
     c.local_sum-sum.result ≡ local_sum c.args.column (position_of c.args.position) around =
-      let a = c.args in
-      c.local_sum-sum.ensures ∙ ap (λ (n : Neighbours). local_sum a.column (position_of a.position) n) c.fetch-around.ensures in
+    let a = c.args in
+    c.local_sum-sum.ensures ∙ ap (λ (n : Neighbours). local_sum a.column (position_of a.position) n) c.fetch-around.ensures in
     let a = c.args in
     let sample = get_or a.here.now a.at (pos 0) in
     let r = c.local_sum-sum in
@@ -63,9 +63,9 @@ pub inside_central-requires : goal.inside_central-requires
 inside_central-requires c =
     let off : let a = c.args in
     (position_of a.position ≡ inside) × (a.column ≡ false) =
-      let a = c.args in
-      let p = position_of a.position in
-      off_edges p.first_row p.first_column p.last_column a.column c.if-position-column.false in
+    let a = c.args in
+    let p = position_of a.position in
+    off_edges p.first_row p.first_column p.last_column a.column c.if-position-column.false in
     let s = c in
     let a = c.args in
     subst (λ (p : Position). Centre a.above.now a.north a.here.now a.at p) off.0 c.requires
@@ -74,9 +74,9 @@ pub returns : goal.returns
 returns c =
     let off : let a = c.args in
     (position_of a.position ≡ inside) × (a.column ≡ false) =
-      let a = c.args in
-      let p = position_of a.position in
-      off_edges p.first_row p.first_column p.last_column a.column c.if-position-column.false in
+    let a = c.args in
+    let p = position_of a.position in
+    off_edges p.first_row p.first_column p.last_column a.column c.if-position-column.false in
     let a = c.args in
     let r = c.inside_central in
     let known = off in

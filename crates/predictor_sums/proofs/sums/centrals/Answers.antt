@@ -33,48 +33,48 @@ pub overflow_mul-base : goal.overflow_mul-base
 overflow_mul-base c =
     let window : let a = c.args in
     Window a.image.now ((a.z - 1 - c.loop-i.i) * a.grid.area) a.t a.grid.nx =
-      let s = c in
-      let q = c.requires in
-      let f = q.few in
-      let z-in : c.args.z - 1 - c.loop-i.i < c.args.z = omega arith in
-      let l = digits_lt z-in q.place_in in
-      record { later = q.later; wide = q.wide; inside = omega (arith, q.long); most = q.most } in
+    let s = c in
+    let q = c.requires in
+    let f = q.few in
+    let z-in : c.args.z - 1 - c.loop-i.i < c.args.z = omega arith in
+    let l = digits_lt z-in q.place_in in
+    record { later = q.later; wide = q.wide; inside = omega (arith, q.long); most = q.most } in
     let w = window in omega arith
 
 pub overflow_add-base : goal.overflow_add-base
 overflow_add-base c =
     let window : let a = c.args in
     Window a.image.now ((a.z - 1 - c.loop-i.i) * a.grid.area) a.t a.grid.nx =
-      let s = c in
-      let q = c.requires in
-      let f = q.few in
-      let z-in : c.args.z - 1 - c.loop-i.i < c.args.z = omega arith in
-      let l = digits_lt z-in q.place_in in
-      record { later = q.later; wide = q.wide; inside = omega (arith, q.long); most = q.most } in
+    let s = c in
+    let q = c.requires in
+    let f = q.few in
+    let z-in : c.args.z - 1 - c.loop-i.i < c.args.z = omega arith in
+    let l = digits_lt z-in q.place_in in
+    record { later = q.later; wide = q.wide; inside = omega (arith, q.long); most = q.most } in
     let w = window in let u = c.less-up.ensures in omega arith
 
 pub overflow_add-base-in-loop-i : goal.overflow_add-base-in-loop-i
 overflow_add-base-in-loop-i c =
     let window : let a = c.args in
     Window a.image.now ((a.z - 1 - c.loop-i.i) * a.grid.area) a.t a.grid.nx =
-      let s = c in
-      let q = c.requires in
-      let f = q.few in
-      let z-in : c.args.z - 1 - c.loop-i.i < c.args.z = omega arith in
-      let l = digits_lt z-in q.place_in in
-      record { later = q.later; wide = q.wide; inside = omega (arith, q.long); most = q.most } in
+    let s = c in
+    let q = c.requires in
+    let f = q.few in
+    let z-in : c.args.z - 1 - c.loop-i.i < c.args.z = omega arith in
+    let l = digits_lt z-in q.place_in in
+    record { later = q.later; wide = q.wide; inside = omega (arith, q.long); most = q.most } in
     let w = window in omega arith
 
 pub central-requires : goal.central-requires
 central-requires c =
     let window : let a = c.args in
     Window a.image.now ((a.z - 1 - c.loop-i.i) * a.grid.area) a.t a.grid.nx =
-      let s = c in
-      let q = c.requires in
-      let f = q.few in
-      let z-in : c.args.z - 1 - c.loop-i.i < c.args.z = omega arith in
-      let l = digits_lt z-in q.place_in in
-      record { later = q.later; wide = q.wide; inside = omega (arith, q.long); most = q.most } in
+    let s = c in
+    let q = c.requires in
+    let f = q.few in
+    let z-in : c.args.z - 1 - c.loop-i.i < c.args.z = omega arith in
+    let l = digits_lt z-in q.place_in in
+    record { later = q.later; wide = q.wide; inside = omega (arith, q.long); most = q.most } in
     let q = c.requires in
     let w = window in
     record {
@@ -104,12 +104,12 @@ pub loop-i-preserved : goal.loop-i-preserved
 loop-i-preserved c =
     let window : let a = c.args in
     Window a.image.now ((a.z - 1 - c.loop-i.i) * a.grid.area) a.t a.grid.nx =
-      let s = c in
-      let q = c.requires in
-      let f = q.few in
-      let z-in : c.args.z - 1 - c.loop-i.i < c.args.z = omega arith in
-      let l = digits_lt z-in q.place_in in
-      record { later = q.later; wide = q.wide; inside = omega (arith, q.long); most = q.most } in
+    let s = c in
+    let q = c.requires in
+    let f = q.few in
+    let z-in : c.args.z - 1 - c.loop-i.i < c.args.z = omega arith in
+    let l = digits_lt z-in q.place_in in
+    record { later = q.later; wide = q.wide; inside = omega (arith, q.long); most = q.most } in
     let s = c in
     let a = c.args in
     let g = a.grid in

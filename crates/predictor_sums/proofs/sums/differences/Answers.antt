@@ -44,23 +44,23 @@ fetch-around-requires c =
 pub slice_bounds-centrals-end : goal.slice_bounds-centrals-end
 slice_bounds-centrals-end c =
     let some_in : c.least-behind.result ≤ length c.args.us.now =
-      let d = c.requires in
-      omega (arith, n_most d c.least-behind.result c.least-behind.ensures, d.long) in
+    let d = c.requires in
+    omega (arith, n_most d c.least-behind.result c.least-behind.ensures, d.long) in
     some_in
 
 pub slice_bounds-centrals-end-then-reduced : goal.slice_bounds-centrals-end-then-reduced
 slice_bounds-centrals-end-then-reduced c =
     let some_in : c.least-behind.result ≤ length c.args.us.now =
-      let d = c.requires in
-      omega (arith, n_most d c.least-behind.result c.least-behind.ensures, d.long) in
+    let d = c.requires in
+    omega (arith, n_most d c.least-behind.result c.least-behind.ensures, d.long) in
     let n = c.least-behind in
     sym (length-take-le n.result c.args.us.now some_in)
 
 pub centrals-requires : goal.centrals-requires
 centrals-requires c =
     let some_in : c.least-behind.result ≤ length c.args.us.now =
-      let d = c.requires in
-      omega (arith, n_most d c.least-behind.result c.least-behind.ensures, d.long) in
+    let d = c.requires in
+    omega (arith, n_most d c.least-behind.result c.least-behind.ensures, d.long) in
     let s = c in
     let n = c.least-behind in
     let long = length-take-le n.result c.args.us.now some_in in
@@ -70,9 +70,9 @@ pub returns-then-reduced : goal.returns-then-reduced
 returns-then-reduced c =
     let sum_at_lem : let a = c.args in
     c.local_sum-sum.result ≡ sum_at a.s.image.nx a.s.predictor.column (band a.s a.image.now a.z) a.t =
-      let s = c in
-      let found = sum_is (window c.requires) c.position_at-position.ensures c.less.ensures in
-      c.local_sum-sum.ensures ∙ found c.fetch-around.ensures c.args.s.predictor.column (narrow c.requires) in
+    let s = c in
+    let found = sum_is (window c.requires) c.position_at-position.ensures c.less.ensures in
+    c.local_sum-sum.ensures ∙ found c.fetch-around.ensures c.args.s.predictor.column (narrow c.requires) in
     let r = c.local_sum-sum in
     let n = c.least-behind in
     let e = to_z-of_z (ok w64 r.result r.type_inv) ∙ sum_at_lem in
@@ -98,13 +98,13 @@ slice_bounds-put_three-end c =
 pub slice_bounds-put_three-end-2 : goal.slice_bounds-put_three-end-2
 slice_bounds-put_three-end-2 c =
     let three-in : length (take 3 c.args.us.now) ≡ 3 =
-      length-take-le 3 c.args.us.now (omega (arith, c.requires.long)) in
+    length-take-le 3 c.args.us.now (omega (arith, c.requires.long)) in
     sym three-in
 
 pub put_three-requires : goal.put_three-requires
 put_three-requires c =
     let three-in : length (take 3 c.args.us.now) ≡ 3 =
-      length-take-le 3 c.args.us.now (omega (arith, c.requires.long)) in
+    length-take-le 3 c.args.us.now (omega (arith, c.requires.long)) in
     three-in
 
 pub slice_bounds-centrals-end-2 : goal.slice_bounds-centrals-end-2
@@ -118,7 +118,7 @@ slice_bounds-centrals-end-2 c =
 pub centrals-requires-2 : goal.centrals-requires-2
 centrals-requires-2 c =
     let three-in : length (take 3 c.args.us.now) ≡ 3 =
-      length-take-le 3 c.args.us.now (omega (arith, c.requires.long)) in
+    length-take-le 3 c.args.us.now (omega (arith, c.requires.long)) in
     let s = c in
     let n = c.least-behind in
     let three = c.put_three in
@@ -130,11 +130,11 @@ pub returns : goal.returns
 returns c =
     let sum_at_lem : let a = c.args in
     c.local_sum-sum.result ≡ sum_at a.s.image.nx a.s.predictor.column (band a.s a.image.now a.z) a.t =
-      let s = c in
-      let found = sum_is (window c.requires) c.position_at-position.ensures c.less.ensures in
-      c.local_sum-sum.ensures ∙ found c.fetch-around.ensures c.args.s.predictor.column (narrow c.requires) in
+    let s = c in
+    let found = sum_is (window c.requires) c.position_at-position.ensures c.less.ensures in
+    c.local_sum-sum.ensures ∙ found c.fetch-around.ensures c.args.s.predictor.column (narrow c.requires) in
     let three-in : length (take 3 c.args.us.now) ≡ 3 =
-      length-take-le 3 c.args.us.now (omega (arith, c.requires.long)) in
+    length-take-le 3 c.args.us.now (omega (arith, c.requires.long)) in
     let d = c.requires in
     let n = c.least-behind in
     let r = c.local_sum-sum in

@@ -38,15 +38,15 @@ bounds-above-north-3 c =
 pub difference-requires : goal.difference-requires
 difference-requires c =
     let around : Neighbours =
-      let a = c.args in fetched a.above.now a.north a.here.now a.at inside in
+    let a = c.args in fetched a.above.now a.north a.here.now a.at inside in
     let sum_is : c.inside_sum-sum.result ≡ local_sum false inside around =
-      let n = around in
-      let west = ok w32 n.west c.inside_sum-arg-1.given in
-      let corner = ok w32 n.north_west c.inside_sum-arg-2-1.given in
-      let north = ok w32 n.north c.inside_sum-arg-3-1.given in
-      let east = ok w32 n.north_east c.inside_sum-arg-4-1.given in
-      let e = simp (to_z-of_z, west, corner, north, east) at c.inside_sum-sum.ensures in
-      e ∙ sum_inside false inside n refl refl refl refl in
+    let n = around in
+    let west = ok w32 n.west c.inside_sum-arg-1.given in
+    let corner = ok w32 n.north_west c.inside_sum-arg-2-1.given in
+    let north = ok w32 n.north c.inside_sum-arg-3-1.given in
+    let east = ok w32 n.north_east c.inside_sum-arg-4-1.given in
+    let e = simp (to_z-of_z, west, corner, north, east) at c.inside_sum-sum.ensures in
+    e ∙ sum_inside false inside n refl refl refl refl in
     let s = c in
     let a = c.args in
     let q = c.requires in
@@ -58,15 +58,15 @@ difference-requires c =
 pub returns : goal.returns
 returns c =
     let around : Neighbours =
-      let a = c.args in fetched a.above.now a.north a.here.now a.at inside in
+    let a = c.args in fetched a.above.now a.north a.here.now a.at inside in
     let sum_is : c.inside_sum-sum.result ≡ local_sum false inside around =
-      let n = around in
-      let west = ok w32 n.west c.inside_sum-arg-1.given in
-      let corner = ok w32 n.north_west c.inside_sum-arg-2-1.given in
-      let north = ok w32 n.north c.inside_sum-arg-3-1.given in
-      let east = ok w32 n.north_east c.inside_sum-arg-4-1.given in
-      let e = simp (to_z-of_z, west, corner, north, east) at c.inside_sum-sum.ensures in
-      e ∙ sum_inside false inside n refl refl refl refl in
+    let n = around in
+    let west = ok w32 n.west c.inside_sum-arg-1.given in
+    let corner = ok w32 n.north_west c.inside_sum-arg-2-1.given in
+    let north = ok w32 n.north c.inside_sum-arg-3-1.given in
+    let east = ok w32 n.north_east c.inside_sum-arg-4-1.given in
+    let e = simp (to_z-of_z, west, corner, north, east) at c.inside_sum-sum.ensures in
+    e ∙ sum_inside false inside n refl refl refl refl in
     let a = c.args in
     let sample = get_or a.here.now a.at (pos 0) in
     let r = c.inside_sum-sum in

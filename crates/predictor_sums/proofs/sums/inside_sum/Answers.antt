@@ -7,55 +7,55 @@ use Rattle.predictor_sums.proofs.sums.inside_sum.Goals as goal
 pub overflow_cast-result : goal.overflow_cast-result
 overflow_cast-result c =
     let at : Inside c.args.west c.args.corner c.args.north c.args.east =
-      inside_fits c.args.west c.args.corner c.args.north c.args.east c.ranges.west c.ranges.corner c.ranges.north
-      c.ranges.east in
+    inside_fits c.args.west c.args.corner c.args.north c.args.east c.ranges.west c.ranges.corner c.ranges.north
+    c.ranges.east in
     search (to_z-of_z, at)
 
 pub overflow_cast-result-2 : goal.overflow_cast-result-2
 overflow_cast-result-2 c =
     let at : Inside c.args.west c.args.corner c.args.north c.args.east =
-      inside_fits c.args.west c.args.corner c.args.north c.args.east c.ranges.west c.ranges.corner c.ranges.north
-      c.ranges.east in
+    inside_fits c.args.west c.args.corner c.args.north c.args.east c.ranges.west c.ranges.corner c.ranges.north
+    c.ranges.east in
     search (to_z-of_z, at)
 
 pub overflow_add-result : goal.overflow_add-result
 overflow_add-result c =
     let at : Inside c.args.west c.args.corner c.args.north c.args.east =
-      inside_fits c.args.west c.args.corner c.args.north c.args.east c.ranges.west c.ranges.corner c.ranges.north
-      c.ranges.east in
+    inside_fits c.args.west c.args.corner c.args.north c.args.east c.ranges.west c.ranges.corner c.ranges.north
+    c.ranges.east in
     search (to_z-of_z, at)
 
 pub overflow_cast-result-3 : goal.overflow_cast-result-3
 overflow_cast-result-3 c =
     let at : Inside c.args.west c.args.corner c.args.north c.args.east =
-      inside_fits c.args.west c.args.corner c.args.north c.args.east c.ranges.west c.ranges.corner c.ranges.north
-      c.ranges.east in
+    inside_fits c.args.west c.args.corner c.args.north c.args.east c.ranges.west c.ranges.corner c.ranges.north
+    c.ranges.east in
     search (to_z-of_z, at)
 
 pub overflow_add-result-2 : goal.overflow_add-result-2
 overflow_add-result-2 c =
     let at : Inside c.args.west c.args.corner c.args.north c.args.east =
-      inside_fits c.args.west c.args.corner c.args.north c.args.east c.ranges.west c.ranges.corner c.ranges.north
-      c.ranges.east in
+    inside_fits c.args.west c.args.corner c.args.north c.args.east c.ranges.west c.ranges.corner c.ranges.north
+    c.ranges.east in
     search (to_z-of_z, at)
 
 pub overflow_cast-result-4 : goal.overflow_cast-result-4
 overflow_cast-result-4 c =
     let at : Inside c.args.west c.args.corner c.args.north c.args.east =
-      inside_fits c.args.west c.args.corner c.args.north c.args.east c.ranges.west c.ranges.corner c.ranges.north
-      c.ranges.east in
+    inside_fits c.args.west c.args.corner c.args.north c.args.east c.ranges.west c.ranges.corner c.ranges.north
+    c.ranges.east in
     search (to_z-of_z, at)
 
 pub overflow_add-result-3 : goal.overflow_add-result-3
 overflow_add-result-3 c =
     let at : Inside c.args.west c.args.corner c.args.north c.args.east =
-      inside_fits c.args.west c.args.corner c.args.north c.args.east c.ranges.west c.ranges.corner c.ranges.north
-      c.ranges.east in
+    inside_fits c.args.west c.args.corner c.args.north c.args.east c.ranges.west c.ranges.corner c.ranges.north
+    c.ranges.east in
     search (to_z-of_z, at)
 
 pub returns : goal.returns
 returns c =
     let at : Inside c.args.west c.args.corner c.args.north c.args.east =
-      inside_fits c.args.west c.args.corner c.args.north c.args.east c.ranges.west c.ranges.corner c.ranges.north
-      c.ranges.east in
+    inside_fits c.args.west c.args.corner c.args.north c.args.east c.ranges.west c.ranges.corner c.ranges.north
+    c.ranges.east in
     search (to_z-of_z, at)

@@ -7,41 +7,41 @@ use Rattle.predictor_sums.proofs.sums.last_column_sum.Goals as goal
 pub overflow_cast-result : goal.overflow_cast-result
 overflow_cast-result c =
     let at : LastColumn c.args.west c.args.corner c.args.north =
-      last_column_fits c.args.west c.args.corner c.args.north c.ranges.west c.ranges.corner c.ranges.north in
+    last_column_fits c.args.west c.args.corner c.args.north c.ranges.west c.ranges.corner c.ranges.north in
     search (to_z-of_z, at)
 
 pub overflow_cast-result-2 : goal.overflow_cast-result-2
 overflow_cast-result-2 c =
     let at : LastColumn c.args.west c.args.corner c.args.north =
-      last_column_fits c.args.west c.args.corner c.args.north c.ranges.west c.ranges.corner c.ranges.north in
+    last_column_fits c.args.west c.args.corner c.args.north c.ranges.west c.ranges.corner c.ranges.north in
     search (to_z-of_z, at)
 
 pub overflow_add-result : goal.overflow_add-result
 overflow_add-result c =
     let at : LastColumn c.args.west c.args.corner c.args.north =
-      last_column_fits c.args.west c.args.corner c.args.north c.ranges.west c.ranges.corner c.ranges.north in
+    last_column_fits c.args.west c.args.corner c.args.north c.ranges.west c.ranges.corner c.ranges.north in
     search (to_z-of_z, at)
 
 pub overflow_cast-result-3 : goal.overflow_cast-result-3
 overflow_cast-result-3 c =
     let at : LastColumn c.args.west c.args.corner c.args.north =
-      last_column_fits c.args.west c.args.corner c.args.north c.ranges.west c.ranges.corner c.ranges.north in
+    last_column_fits c.args.west c.args.corner c.args.north c.ranges.west c.ranges.corner c.ranges.north in
     search (to_z-of_z, at)
 
 pub overflow_mul-result : goal.overflow_mul-result
 overflow_mul-result c =
     let at : LastColumn c.args.west c.args.corner c.args.north =
-      last_column_fits c.args.west c.args.corner c.args.north c.ranges.west c.ranges.corner c.ranges.north in
+    last_column_fits c.args.west c.args.corner c.args.north c.ranges.west c.ranges.corner c.ranges.north in
     search (to_z-of_z, at)
 
 pub overflow_add-result-2 : goal.overflow_add-result-2
 overflow_add-result-2 c =
     let at : LastColumn c.args.west c.args.corner c.args.north =
-      last_column_fits c.args.west c.args.corner c.args.north c.ranges.west c.ranges.corner c.ranges.north in
+    last_column_fits c.args.west c.args.corner c.args.north c.ranges.west c.ranges.corner c.ranges.north in
     search (to_z-of_z, at)
 
 pub returns : goal.returns
 returns c =
     let at : LastColumn c.args.west c.args.corner c.args.north =
-      last_column_fits c.args.west c.args.corner c.args.north c.ranges.west c.ranges.corner c.ranges.north in
+    last_column_fits c.args.west c.args.corner c.args.north c.ranges.west c.ranges.corner c.ranges.north in
     search (to_z-of_z, at)

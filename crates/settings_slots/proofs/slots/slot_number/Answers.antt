@@ -18,21 +18,21 @@ size_fits z f = omega (zs, abs_parts z)
 pub overflow_cast-l : goal.overflow_cast-l
 overflow_cast-l c =
     let here : SFits w32 (get_or c.args.l.now c.args.i (pos 0)) =
-      ok w32 (get_or c.args.l.now c.args.i (pos 0)) c.magnitude-arg-1.given in
+    ok w32 (get_or c.args.l.now c.args.i (pos 0)) c.magnitude-arg-1.given in
     let f = here in simp (to_z-of_z, f) (wide f)
 
 pub overflow_cast-result : goal.overflow_cast-result
 overflow_cast-result c =
     let here : SFits w32 (get_or c.args.l.now c.args.i (pos 0)) =
-      ok w32 (get_or c.args.l.now c.args.i (pos 0)) c.magnitude-arg-1.given in
+    ok w32 (get_or c.args.l.now c.args.i (pos 0)) c.magnitude-arg-1.given in
     let number_is : c.magnitude.result ≡ nat_abs (get_or c.args.l.now c.args.i (pos 0)) =
-      let f = here in simp (to_z-of_z, f, wide f) at c.magnitude.ensures in
+    let f = here in simp (to_z-of_z, f, wide f) at c.magnitude.ensures in
     let f = here in let s = size_fits (get_or c.args.l.now c.args.i (pos 0)) f in record { fits = omega (arith, number_is) }
 
 pub returns : goal.returns
 returns c =
     let here : SFits w32 (get_or c.args.l.now c.args.i (pos 0)) =
-      ok w32 (get_or c.args.l.now c.args.i (pos 0)) c.magnitude-arg-1.given in
+    ok w32 (get_or c.args.l.now c.args.i (pos 0)) c.magnitude-arg-1.given in
     let number_is : c.magnitude.result ≡ nat_abs (get_or c.args.l.now c.args.i (pos 0)) =
-      let f = here in simp (to_z-of_z, f, wide f) at c.magnitude.ensures in
+    let f = here in simp (to_z-of_z, f, wide f) at c.magnitude.ensures in
     number_is
