@@ -1,5 +1,5 @@
 -- The body (5.4): the codes of all values in their order, written and read.
-use Rattle.std.specs.Prelude.{Bool, List, [], ◌∷◌, ◌++◌, ℕ, suc, ℤ, pos, set}
+use Rattle.std.specs.Prelude.{Bool, List, [], ◌∷◌, ◌++◌, ℕ, suc, ℤ, set}
 use Rattle.bitstream.specs.Stream.{Parsed, ok, short, bad}
 use Rattle.refusals.specs.declared.Refusal.TheVariants.{BodyEnds, BadCodeword}
 use Rattle.refusals.specs.Reading.{Read, got, refused}

@@ -1,10 +1,10 @@
 -- The body both ways: at each place writer and reader stand in the same context, since it comes from earlier places alone.
 use Rattle.std.proofs.Math.Path.{◌≡◌, refl, sym, ap, subst}
 use Rattle.std.proofs.Common.{◌∙◌, mul-le-mul_right, suc-mul, div-add-mod', mod-lt, div-lt_iff_lt-mul, length-set}
-use Rattle.std.specs.Prelude.{◌≢◌, Bool, false, cond, pos, length, set}
+use Rattle.std.specs.Prelude.{◌≢◌, Bool, pos, set}
 use Rattle.std.proofs.Math.Bool.{true}
 use mathlib.Core.List.{List, [], ◌∷◌, ◌++◌, append_assoc}
-use Prim.Native.Nat.{ℕ, zero, suc, ◌+◌, ◌-◌, ◌*◌, ◌/◌, ◌%◌, ◌^◌, ◌<◌, ◌≤◌}
+use Prim.Native.Nat.{ℕ, suc, ◌+◌, ◌-◌, ◌*◌, ◌/◌, ◌%◌, ◌<◌, ◌≤◌}
 use Rattle.std.proofs.Math.Nat.{mul_comm}
 use Rattle.std.proofs.Math.Decide.{ℕ_discrete}
 use native.Mathlib.Omega.{arith}
@@ -27,9 +27,9 @@ use Rattle.coder.specs.Statistics.{statistics_at}
 use Rattle.coder.specs.StatisticsLaws.{statistics_same}
 use Rattle.coder.specs.Encoding.{encode, encode_at}
 use Rattle.coder.specs.EncodingLaws.{decode_encode, encode_decode}
-use Rattle.body.specs.Order.{Place, order}
-use Rattle.body.specs.OrderLaws.{All, all_map, Earlier, Inside, Fine, Sorted, Off, sorted_order, inside_order, complete}
-use Rattle.body.specs.Body.{code, codes, body, mapped_off, restored, read_body}
+use Rattle.body.specs.Order.{Place}
+use Rattle.body.specs.OrderLaws.{All, all_map, Earlier, Inside, Fine, Sorted, Off}
+use Rattle.body.specs.Body.{code, codes, mapped_off, restored, read_body}
 pub use Rattle.body.specs.Good.{Good}
 
 -- the bits of sample v at place p, in the context that the image I gives

@@ -1,5 +1,5 @@
 -- The order of a small image worked by hand; the laws alone would let the sub-frames of a row change places with its columns.
-use Rattle.std.specs.Prelude.{◌≡◌, refl, Bool, true, false, List, [], ◌∷◌, ℕ}
+use Rattle.std.specs.Prelude.{◌≡◌, refl, Bool, true, false, [], ◌∷◌, ℕ}
 use Rattle.settings.specs.declared.Image.{Image}
 use Rattle.settings.specs.Lists.{join}
 use Rattle.body.specs.Order.{Place, column_of, row_of, band_sequential, sub_frames, frame_of, band_interleaved, order}

@@ -1,5 +1,5 @@
 -- The encoding order as a list of places (5.4.2).
-use Rattle.std.specs.Prelude.{Bool, cond, List, [], ◌∷◌, ℕ, ◌+◌, ◌-◌, ◌*◌, ◌/◌, min}
+use Rattle.std.specs.Prelude.{cond, List, ℕ, ◌+◌, ◌-◌, ◌*◌, ◌/◌, min}
 use Rattle.settings.specs.declared.Image.{Image}
 use Rattle.settings.specs.Lists.{join, one}
 

@@ -1,24 +1,23 @@
 -- What a value can reach: its own band and the bands before it, up to its own place in each, and nothing else.
 -- Said over the image I that is predicted from, whatever that image is; and each weight and Σ stays in its range.
-use Rattle.std.specs.Prelude.{◌≡◌, Bool, cond, ℤ, pos, get_or}
+use Rattle.std.specs.Prelude.{◌≡◌, Bool, ℤ}
 use Rattle.std.proofs.Math.Path.{refl, ap₂}
 use Rattle.std.proofs.Common.{sym, ◌∙◌, ap, zero-add, arith}
 use Rattle.std.proofs.Math.Bool.{true, false}
 use mathlib.Core.List.{List, [], ◌∷◌, ◌++◌, append_assoc}
-use Prim.Native.Nat.{ℕ, zero, suc, ◌+◌, ◌-◌, ◌*◌, ◌^◌, ◌<◌, ◌≤◌}
+use Prim.Native.Nat.{ℕ, suc, ◌-◌, ◌*◌, ◌<◌, ◌≤◌}
 use Rattle.settings.specs.declared.Image as settings
 use Rattle.settings.specs.declared.Settings.{Settings}
 use Rattle.settings.specs.Lists.{join}
 use Rattle.settings.specs.ListLaws.{join_append}
-use Rattle.predictor.specs.Differences.{Image, image_of}
+use Rattle.predictor.specs.Differences.{Image}
 use Rattle.predictor.specs.Band.{mapped_at}
 use Rattle.predictor.specs.Causality.{mapped_at_same}
-use Rattle.coder.specs.Statistics.{statistics_at}
 use Rattle.coder.specs.StatisticsLaws.{statistics_same}
 use Rattle.coder.specs.Encoding.{encode, encode_at}
 use Rattle.body.specs.Order.{Place, row_of, band_sequential, frame_of, band_interleaved, order}
 use Rattle.body.specs.OrderLaws.{All, all_map, Inside, inside_order}
-use Rattle.body.specs.Body.{code, codes, body}
+use Rattle.body.specs.Body.{code, codes}
 
 -- the images agree in bands 0 to z, at all of `area` places; above band z anything may stand
 abbrev pub SameBands : ℕ → ℕ → Image → Image → Type 0

@@ -1,7 +1,7 @@
 -- A band begun: its first weights in front, its first statistics behind them, and nothing else is looked at.
 use mathlib.Core.Path.{◌≡◌, sym, ◌∙◌, ap}
 use mathlib.Core.List.{List, ◌++◌}
-use Prim.Native.Nat.{ℕ, ◌+◌, ◌-◌, ◌^◌, ◌<◌, ◌≤◌}
+use Prim.Native.Nat.{ℕ, ◌+◌, ◌^◌, ◌≤◌}
 use native.Mathlib.Omega.{arith}
 use lib.IntN.{ℤ, pos}
 use lib.ListN.{length, set, take, drop, length-append, length-drop, length-take}
@@ -11,10 +11,9 @@ use borrow.Rule.Slice.PartMut.{put_mid}
 use Rattle.settings.specs.declared.Settings.{Settings}
 use Rattle.settings.specs.Tables.{component_count}
 use Rattle.settings.specs.TableLaws.{legal_tables, components_fit}
-use Rattle.predictor.specs.Differences.{Image}
 use Rattle.predictor.specs.Weights.{initial_weights}
-use Rattle.predictor.specs.Band.{weights_at, mapped_at}
-use Rattle.predictor.specs.Each.{Each, each_map}
+use Rattle.predictor.specs.Band.{weights_at}
+use Rattle.predictor.specs.Each.{each_map}
 use Rattle.predictor.specs.Lengths.{initial_weights_length}
 use Rattle.predictor.specs.SizeLaws.{Size}
 use Rattle.predictor.specs.WeightLaws.{InWeights, weight_size, initial_weights_range}
@@ -26,7 +25,7 @@ use Rattle.coder.specs.StatisticsLaws.{Tame, initial_tame}
 use Rattle.coder.proofs.Firsts.{parameter_fits}
 use Rattle.body_value.specs.declared.plan.Plan.{Plan}
 use Rattle.body_value.specs.Coder.{statistics_in, Keeping}
-use Rattle.body_value.specs.Value.{Fits, Held, Startable, Started}
+use Rattle.body_value.specs.Value.{Startable, Started}
 use Rattle.body_value.proofs.Plans.{legal}
 use Rattle.body_value.proofs.Codes.{counted, with_in, with_counts}
 use Rattle.body_value.proofs.Values.{mid_front, mid_behind, mid_long}

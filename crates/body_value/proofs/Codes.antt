@@ -1,8 +1,8 @@
 -- The coder's half: statistics held in two slots, their step, and the bits.
-use mathlib.Core.Path.{◌≡◌, refl, sym, ◌∙◌, ap, ap₂}
-use mathlib.Core.Bool.{Bool, true}
+use mathlib.Core.Path.{◌≡◌, refl, sym, ◌∙◌, ap}
+use mathlib.Core.Bool.{Bool}
 use mathlib.Core.List.{List}
-use Prim.Native.Nat.{ℕ, zero, suc, ◌+◌, ◌*◌, ◌^◌, ◌<◌, ◌≤◌}
+use Prim.Native.Nat.{ℕ, zero, suc, ◌*◌, ◌^◌, ◌<◌, ◌≤◌}
 use native.Mathlib.Nat.{mul-le-mul}
 use native.Mathlib.Omega.{arith}
 use lib.IntN.{ℤ, pos, nat_abs}
@@ -12,10 +12,10 @@ use lib.Seq.{get_or-set_same, get_or-set_other}
 use Rattle.bitstream.specs.declared.write.Tail.{Tail}
 use Rattle.bitstream.specs.declared.read.Got.{Got}
 use Rattle.bitstream.specs.declared.read.Got.TheVariants.{Value, Short, Bad}
-use Rattle.bitstream.specs.Stream.{Parsed, ok, short, bad, bits, field}
+use Rattle.bitstream.specs.Stream.{Parsed, ok, bits, field}
 use Rattle.bitstream.specs.Writer.{Put}
 use Rattle.bitstream.specs.Reader.{found, Means}
-use Rattle.bitstream.specs.Laws.{found_means, field_ok}
+use Rattle.bitstream.specs.Laws.{found_means}
 use Rattle.bitstream.proofs.Writes.{put_as}
 use Rattle.settings.specs.declared.Settings.{Settings}
 use Rattle.coder.specs.declared.Statistics.{Statistics}

@@ -15,7 +15,6 @@ use Rattle.settings.specs.declared.Settings.{Settings}
 use Rattle.settings.specs.Legal.{settings_legal, limited}
 use Rattle.settings.specs.Limits.{most_samples}
 use Rattle.settings.specs.LegalLaws.{LegalSettings, legal_settings, limited_facts}
-use Rattle.settings.specs.Range.{lowest, middle, highest}
 use Rattle.settings.specs.RangeLaws.{small}
 use Rattle.predictor.specs.Prediction.{inner, scaled_by, scaled_prediction}
 use Rattle.predictor.specs.WeightUpdate.{exponent_by, exponent}

@@ -2,7 +2,7 @@
 use mathlib.Core.Path.{◌≡◌, refl, sym, ◌∙◌, ap, ap₂}
 use mathlib.Core.Bool.{Bool, true}
 use mathlib.Core.List.{List, ◌++◌}
-use Prim.Native.Nat.{ℕ, zero, suc, ◌+◌, ◌-◌, ◌*◌, ◌^◌, ◌<◌, ◌≤◌}
+use Prim.Native.Nat.{ℕ, zero, suc, ◌+◌, ◌*◌, ◌^◌, ◌<◌, ◌≤◌}
 use native.Mathlib.Omega.{arith}
 use lib.IntN.{ℤ, pos, nat_abs, ◌-ℤ◌}
 use lib.Signed.{le_z, ◌≤ℤ◌}
@@ -20,7 +20,7 @@ use Rattle.predictor.specs.WeightUpdate.{scaled_error, exponent_by, stepped_weig
 use Rattle.predictor.specs.Mapping.{mapped, unmapped, mapped_by, unmapped_by}
 use Rattle.predictor.specs.MappingLaws.{mapped_small, unmapped_range}
 use Rattle.predictor.specs.Band.{scaled_with, weights_behind}
-use Rattle.predictor.specs.Each.{Each, each_map}
+use Rattle.predictor.specs.Each.{each_map}
 use Rattle.predictor.specs.Lengths.{components_at_length, stepped_weights_length}
 use Rattle.predictor.specs.WeightLaws.{InWeights, weight_size, stepped_weights_range}
 use Rattle.predictor.specs.SizeLaws.{Size, components_small, sum_small}
@@ -32,8 +32,8 @@ use Rattle.predictor.specs.Asks as asks
 use Rattle.predictor.specs.Asks.{Pairs, Terms, Stepping, Schedule, Sized, Ranged}
 use Rattle.body_value.specs.declared.plan.Plan.{Plan}
 use Rattle.body_value.specs.declared.Place.{Place}
-use Rattle.body_value.specs.Plan.{Planned, Inside}
-use Rattle.body_value.specs.Predictor.{count, Weights, Predicting, Predicted, Learning, learnt, Learnt, Mapped, Restored}
+use Rattle.body_value.specs.Plan.{Planned}
+use Rattle.body_value.specs.Predictor.{count, Predicting, Predicted, Learning, learnt, Learnt, Mapped, Restored}
 use Rattle.body_value.proofs.Plans.{area_few, legal, deep, middle_small, scaled_is, mapped_is, exponent_is, vmin_small, vmax_small}
 
 -- ---- the plan

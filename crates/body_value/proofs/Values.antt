@@ -1,27 +1,25 @@
 -- One value through a band's slots: the halves' parts lent and back, and what they answer together where the slots hold the band's state.
-use mathlib.Core.Path.{◌≡◌, refl, sym, ◌∙◌, ap, ap₂, subst}
+use mathlib.Core.Path.{◌≡◌, refl, sym, ◌∙◌, ap, ap₂}
 use mathlib.Core.Bool.{Bool, true}
 use mathlib.Core.List.{List, ◌∷◌, ◌++◌}
-use Prim.Native.Nat.{ℕ, zero, suc, ◌+◌, ◌-◌, ◌*◌, ◌/◌, ◌%◌, ◌^◌, ◌<◌, ◌≤◌}
+use Prim.Native.Nat.{ℕ, zero, suc, ◌+◌, ◌*◌, ◌/◌, ◌%◌, ◌^◌, ◌<◌, ◌≤◌}
 use native.Mathlib.Decide.{ℕ_discrete}
 use native.Mathlib.Numerals.{add-one}
 use native.Mathlib.Omega.{arith}
 use lib.Arith.{digits_div, digits_mod}
 use lib.IntN.{ℤ, pos}
 use lib.ListN.{length, get_or, set, take, drop, length-set, length-append, length-drop, length-take}
-use lib.Seq.{take_at, drop_at, take-take, length-take-le, get_or-set_same, get_or-set_other}
+use lib.Seq.{take_at, drop_at, length-take-le, get_or-set_same, get_or-set_other}
 use borrow.Rule.Slice.PartMut.{put_mid, take_put, same_len_mid}
 use Rattle.bitstream.specs.declared.write.Tail.{Tail}
 use Rattle.bitstream.specs.Stream.{Parsed, ok, short, bad}
-use Rattle.bitstream.specs.Writer.{Put}
 use Rattle.settings.specs.declared.Settings.{Settings}
 use Rattle.settings.specs.declared.Image as settings
 use Rattle.refusals.specs.declared.Refusal.TheVariants.{BodyEnds, BadCodeword}
 use Rattle.refusals.specs.Reading.{refused}
 use Rattle.settings.specs.Range.{in_range}
-use Rattle.settings.specs.LegalLaws.{LegalSettings}
 use Rattle.settings.specs.Tables.{component_count}
-use Rattle.predictor.specs.Differences.{Image, index_of, image_of, components_at}
+use Rattle.predictor.specs.Differences.{Image, index_of, image_of}
 use Rattle.predictor.specs.Mapping.{mapped, unmapped}
 use Rattle.predictor.specs.MappingLaws.{mapped_unmapped}
 use Rattle.predictor.specs.Band.{scaled_with, weights_behind, weights_at, scaled_at, mapped_at}
@@ -39,10 +37,10 @@ use Rattle.body.specs.Body.{code, mapped_off, restored, read_body}
 use Rattle.body_value.specs.declared.plan.Plan.{Plan}
 use Rattle.body_value.specs.declared.Place.{Place}
 use Rattle.body_value.specs.declared.Cursor.{Cursor}
-use Rattle.body_value.specs.Plan.{Planned, Inside}
-use Rattle.body_value.specs.Predictor.{Weights, Predicting, Mapped, Restored}
-use Rattle.body_value.specs.Coder.{statistics_in, Counts, Coding, Coded, Decoding, Found}
-use Rattle.body_value.specs.Value.{Fits, Held, place_of, Writing, Wrote, Reading, Placed}
+use Rattle.body_value.specs.Plan.{Planned}
+use Rattle.body_value.specs.Predictor.{Predicting, Mapped, Restored}
+use Rattle.body_value.specs.Coder.{statistics_in, Coding, Coded, Decoding, Found}
+use Rattle.body_value.specs.Value.{Held, place_of, Writing, Wrote, Reading, Placed}
 use Rattle.body_value.proofs.Plans.{legal}
 
 -- ---- the parts of a band's slots

@@ -1,9 +1,8 @@
 -- One value of a band through its slots: safe whatever they hold, and right where they hold the band's state.
-use Rattle.std.specs.Prelude.{◌≡◌, Bool, List, ◌∷◌, ℕ, suc, ◌+◌, ◌*◌, ◌^◌, ◌<◌, ◌≤◌, ℤ, length, take, drop, set}
+use Rattle.std.specs.Prelude.{◌≡◌, Bool, List, ◌∷◌, ℕ, suc, ◌+◌, ◌^◌, ◌<◌, ◌≤◌, ℤ, length, take, drop, set}
 use Rattle.bitstream.specs.declared.write.Tail.{Tail}
 use Rattle.bitstream.specs.Writer.{Put}
 use Rattle.settings.specs.declared.Settings.{Settings}
-use Rattle.refusals.specs.declared.Refusal.{Refusal}
 use Rattle.refusals.specs.Reading.{refused}
 use Rattle.settings.specs.Tables.{component_count, scratch_stride}
 use Rattle.predictor.specs.Differences.{Image, index_of, image_of}

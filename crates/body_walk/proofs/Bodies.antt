@@ -2,7 +2,7 @@
 use mathlib.Core.Path.{◌≡◌, refl, sym, ◌∙◌, ap, subst}
 use mathlib.Core.Bool.{Bool, false}
 use mathlib.Core.List.{List, [], ◌++◌, append-nil}
-use Prim.Native.Nat.{ℕ, ◌+◌, ◌-◌, ◌*◌, ◌^◌, ◌<◌, ◌≤◌}
+use Prim.Native.Nat.{ℕ, ◌+◌, ◌-◌, ◌*◌, ◌<◌, ◌≤◌}
 use native.Mathlib.Decide.{ℕ_discrete}
 use native.Mathlib.Omega.{arith}
 use lib.IntN.{ℤ}
@@ -17,7 +17,6 @@ use Rattle.settings.specs.LegalLaws.{limited_facts}
 use Rattle.refusals.specs.Reading.{got}
 use Rattle.predictor.specs.Differences.{Image, image_of}
 use Rattle.predictor.specs.Inputs.{all_ranged}
-use Rattle.predictor.specs.Asks as asks
 use Rattle.body.specs.Order.{Place, order}
 use Rattle.body.specs.OrderLaws.{length_order}
 use Rattle.body.specs.Body.{body, read_body}

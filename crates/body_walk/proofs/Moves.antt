@@ -1,7 +1,7 @@
 -- Parts of the writer's walk, one after the other, are the walk of their places together.
 use mathlib.Core.Path.{◌≡◌, refl, sym, ◌∙◌}
 use mathlib.Core.List.{List, [], ◌∷◌, ◌++◌, append_assoc, append-nil}
-use Prim.Native.Nat.{ℕ, ◌+◌, ◌-◌, ◌*◌, ◌≤◌}
+use Prim.Native.Nat.{ℕ, ◌+◌, ◌-◌, ◌*◌}
 use native.Mathlib.Omega.{arith}
 use lib.IntN.{ℤ}
 use lib.ListN.{length, take, drop, length-append}
@@ -18,7 +18,7 @@ use Rattle.body_value.specs.Plan.{Inside}
 use Rattle.body_value.specs.Value.{Held, Writing, Wrote}
 use Rattle.body_value.proofs.Plans.{legal}
 use Rattle.body_walk.specs.Rows.{one_place}
-use Rattle.body_walk.specs.Standing.{part, Stand, after, Along}
+use Rattle.body_walk.specs.Standing.{part, after}
 use Rattle.body_walk.specs.Writer.{WriterState, writer_at, Writable, Moved}
 use Rattle.body_walk.proofs.Loops.{Walk}
 use Rattle.body_walk.proofs.Standings.{after_append, along_front, along_behind, lent_is, back_fits, stands}

@@ -3,7 +3,7 @@ use mathlib.Core.Path.{◌≡◌, refl, sym, ◌∙◌, ap, ap₂}
 use mathlib.Core.Bool.{Bool, true, false, cond}
 use mathlib.Core.List.{List, ◌++◌}
 use Prim.Native.Nat.{ℕ, zero, suc, ◌+◌, ◌-◌, ◌*◌, ◌/◌, ◌%◌, ◌^◌, ◌<◌, ◌≤◌, min}
-use native.Mathlib.Nat.{mul_comm, suc-mul, mod-lt, div-lt_iff_lt-mul, le-div_iff_mul-le, mul-le-mul, div-le_self}
+use native.Mathlib.Nat.{suc-mul, mod-lt, div-lt_iff_lt-mul, le-div_iff_mul-le, mul-le-mul, div-le_self}
 use native.Mathlib.Omega.{arith}
 use lib.Arith.{digits_div, digits_mod}
 use Rattle.settings.specs.declared.Image.{Image}

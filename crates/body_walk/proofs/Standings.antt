@@ -1,13 +1,11 @@
 -- Where the bands stand: behind a place its band stands one further on; behind places, as behind one after the other.
 use mathlib.Core.Path.{◌≡◌, refl, sym, ◌∙◌, ap}
-use mathlib.Core.Bool.{cond}
 use mathlib.Core.List.{List, [], ◌∷◌, ◌++◌}
-use Prim.Native.Nat.{ℕ, zero, suc, ◌+◌, ◌-◌, ◌*◌, ◌%◌, ◌^◌, ◌<◌, ◌≤◌}
+use Prim.Native.Nat.{ℕ, zero, suc, ◌+◌, ◌-◌, ◌*◌, ◌<◌, ◌≤◌}
 use native.Mathlib.Decide.{ℕ_discrete}
 use native.Mathlib.Nat.{mul_comm, mul-le-mul_right, suc-mul}
 use native.Mathlib.Omega.{arith}
 use lib.Arith.{digits_lt, digits_mod}
-use lib.Dec.{eqb}
 use lib.IntN.{ℤ}
 use lib.ListN.{length, take, drop, length-take, length-drop}
 use lib.Seq.{take-nil, take_at, drop_at, length-take-le, take-take, drop-drop}
@@ -17,9 +15,8 @@ use Rattle.settings.specs.Limits.{most_samples}
 use Rattle.settings.specs.declared.Settings.{Settings}
 use Rattle.settings.specs.Lists.{join}
 use Rattle.predictor.specs.Differences.{Image}
-use Rattle.predictor.specs.Band.{weights_at, mapped_at}
+use Rattle.predictor.specs.Band.{mapped_at}
 use Rattle.predictor.specs.Causality.{weights_at_same, mapped_at_same}
-use Rattle.coder.specs.Statistics.{statistics_at}
 use Rattle.coder.specs.StatisticsLaws.{statistics_same}
 use Rattle.body.specs.Order.{Place, column_of, row_of}
 use Rattle.body_value.specs.declared.plan.Plan.{Plan}

@@ -1,5 +1,5 @@
 -- A part of the writer's walk: safe wherever scratch fits, and right wherever the bands stand there.
-use Rattle.std.specs.Prelude.{◌≡◌, Bool, List, ℕ, ◌+◌, ◌*◌, ◌^◌, ◌<◌, ◌≤◌, ℤ, length}
+use Rattle.std.specs.Prelude.{◌≡◌, Bool, List, ℕ, ◌+◌, ◌*◌, ◌<◌, ◌≤◌, ℤ, length}
 use Rattle.settings.specs.Limits.{file_ceiling}
 use Rattle.bitstream.specs.declared.write.Tail.{Tail}
 use Rattle.bitstream.specs.Writer.{Put}

@@ -1,5 +1,5 @@
 -- What stands behind the body, at bit `end` of a file, where words have so many bytes.
-use Rattle.std.specs.Prelude.{◌≡◌, Bool, cond, not, ◌||◌, List, ℕ, ◌*◌, length, ltb}
+use Rattle.std.specs.Prelude.{Bool, cond, not, ◌||◌, List, ℕ, ◌*◌, length, ltb}
 use Rattle.bitstream.specs.Stream.{zeros, filling}
 use Rattle.header.specs.Fields.{same}
 use Rattle.closing.specs.declared.ending.Ending.{Ending}

@@ -1,6 +1,5 @@
 -- The number and the value of each call's answer (document 01, "When the recorder says no"): 0 and what success returns, or the refusal's own.
 use Rattle.std.specs.Prelude.{ℕ}
-use Rattle.settings.specs.declared.Settings.{Settings}
 use Rattle.settings.specs.Legal.{sample_count}
 use Rattle.refusals.specs.Refusals.{number, value}
 use Rattle.cube.specs.declared.Packed.{Packed}

@@ -6,7 +6,7 @@ use Rattle.refusals.specs.declared.Refusal.{Refusal}
 use Rattle.refusals.specs.declared.Refusal.TheVariants.{NoRoom}
 use Rattle.refusals.specs.Refusals.{number, clears}
 use Rattle.refusals.specs.RefusalLaws as table
-use Rattle.refusals.specs.Reading.{Read, refused}
+use Rattle.refusals.specs.Reading.{Read}
 use Rattle.settings.specs.declared.Settings.{Settings}
 use Rattle.settings.specs.Legal.{settings_legal, sample_count}
 use Rattle.settings.specs.Tables.{table_stride, scratch_stride}
@@ -19,7 +19,7 @@ use Rattle.cube.specs.declared.Packed.{Packed}
 use Rattle.cube.specs.declared.Packed.TheVariants as packing
 use Rattle.cube.specs.declared.Opened.{Opened}
 use Rattle.cube.specs.declared.Opened.TheVariants as opening
-use Rattle.cube.specs.File.{file, packed}
+use Rattle.cube.specs.File.{file}
 use Rattle.cube.specs.Open.{Cube, Lent, opened}
 use Rattle.cube.specs.Areas.{filled_from, after_refusal, out_after, open_answer, image_after, tables_after, lent_of, Packs, Lengths, Opens, Looks}
 use Rattle.cube.specs.Terms.{Allowed, Enough, OpenedTo}

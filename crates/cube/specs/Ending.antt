@@ -2,7 +2,7 @@
 use Rattle.std.specs.Prelude.{◌≡◌, refl, Bool, true, false, cond, not, ◌||◌, List, [], ◌∷◌, ℕ, ◌*◌, ℤ, length, ltb}
 use Rattle.bitstream.specs.Stream.{zeros, filling}
 use Rattle.refusals.specs.declared.Refusal.TheVariants.{BodyEnds, AfterEnd}
-use Rattle.refusals.specs.Tests.{Test, ◌⇒◌, first_hit}
+use Rattle.refusals.specs.Tests.{◌⇒◌, first_hit}
 use Rattle.refusals.specs.Reading.{Read, got, refused, unless}
 use Rattle.settings.specs.Legal.{sample_count}
 use Rattle.header.specs.Fields.{same}

@@ -1,8 +1,8 @@
 -- What opening answers for any bytes and any lent lengths: refusals in document 01's order, ranks from 0 in coding order.
-use Rattle.std.specs.Prelude.{Bool, cond, not, ◌||◌, List, [], ◌∷◌, ℕ, ◌-◌, ◌*◌, ℤ, pos, length, replicate, ltb}
+use Rattle.std.specs.Prelude.{Bool, not, ◌||◌, List, [], ◌∷◌, ℕ, ◌-◌, ◌*◌, ℤ, pos, length, replicate, ltb}
 use Rattle.bitstream.specs.Stream.{unpack, zeros, filling}
 use Rattle.refusals.specs.declared.Refusal.TheVariants.{WrongCount, ShortArea, BodyEnds, AfterEnd}
-use Rattle.refusals.specs.Tests.{Test, ◌⇒◌, first_hit}
+use Rattle.refusals.specs.Tests.{◌⇒◌, first_hit}
 use Rattle.refusals.specs.Reading.{Read, got, and_then, unless}
 use Rattle.settings.specs.declared.Settings.{Settings}
 use Rattle.settings.specs.Legal.{sample_count}

@@ -1,8 +1,8 @@
 -- The reader's answer from what its body and its end came to.
-use Rattle.std.specs.Prelude.{◌≡◌, Bool, true, false, List, ℕ, ◌*◌, ◌^◌, ◌≤◌, ℤ, length, drop}
+use Rattle.std.specs.Prelude.{Bool, true, false, List, ℕ, ◌^◌, ◌≤◌, ℤ, length, drop}
 use Rattle.refusals.specs.declared.Refusal.TheVariants.{BodyEnds, AfterEnd}
 use Rattle.settings.specs.declared.Settings.{Settings}
-use Rattle.settings.specs.Legal.{sample_count, settings_legal, limited}
+use Rattle.settings.specs.Legal.{sample_count}
 use Rattle.settings.specs.Fine.{Roomy}
 use Rattle.header_reader.specs.Answers.{Begins}
 use Rattle.body_value.specs.declared.Step.{Step}

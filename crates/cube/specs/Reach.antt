@@ -1,6 +1,6 @@
 -- What a published file can tell of a part of the image that was blanked before it was packed, said of the calls.
-use Rattle.std.specs.Prelude.{◌≡◌, refl, true, false, cond, ℕ, suc, ◌+◌, ◌*◌, ◌^◌, ◌<◌, ◌≤◌, pos, nat_abs, length, take}
-use Rattle.std.proofs.Common.{sym, ◌∙◌, arith, length-append, take_at}
+use Rattle.std.specs.Prelude.{◌≡◌, refl, true, false, cond, ℕ, suc, ◌+◌, ◌*◌, ◌<◌, ◌≤◌, nat_abs, length, take}
+use Rattle.std.proofs.Common.{sym, ◌∙◌, arith, take_at}
 use Rattle.std.proofs.Math.Path.{ap}
 use Rattle.std.proofs.Math.Bool.{Bool}
 use mathlib.Core.List.{List, ◌++◌, append_assoc}
@@ -22,7 +22,7 @@ use Rattle.body.specs.Order.{Place, band_sequential, band_interleaved, order}
 use Rattle.body.specs.Body.{codes, body}
 use Rattle.body.specs.Reach.{SameBands, SameRows, mapped_of_bands, mapped_of_rows, Begin, bodies_of_bands, bodies_of_rows}
 use Rattle.cube.specs.declared.Packed.TheVariants as packing
-use Rattle.cube.specs.File.{file_bits, file}
+use Rattle.cube.specs.File.{file}
 use Rattle.cube.specs.Areas.{Packs}
 use Rattle.cube.specs.Terms.{Allowed}
 use Rattle.cube.specs.FileLaws.{file_bits_lem, file_parts}

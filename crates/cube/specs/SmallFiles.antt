@@ -1,6 +1,6 @@
 -- Small files by computation, their bytes the independent program's: 3 × 3 × 2 samples in each order, with custom weights and a table of k',
 -- and 2 × 1 × 3 samples in sub-frames of two bands and of one, with every field that is encoded as 0.
-use Rattle.std.specs.Prelude.{◌≡◌, refl, Bool, true, false, List, [], ◌∷◌, ℕ, ◌-◌, ℤ, pos, negsuc}
+use Rattle.std.specs.Prelude.{◌≡◌, refl, Bool, true, false, List, [], ◌∷◌, ℕ, ℤ, pos, negsuc}
 use Rattle.integers.specs.Integer.{floor_mod, clip, wrap, is_even}
 use Rattle.bitstream.specs.Stream.{odd, bits, number, first_bytes, pack, filled, field}
 use Rattle.settings.specs.declared.Settings.{Settings}

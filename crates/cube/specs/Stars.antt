@@ -1,5 +1,5 @@
 -- Document 01's starred numbers, one table, checked together against the definitions by one computed test.
-use Rattle.std.specs.Prelude.{◌≡◌, refl, Bool, true, false, List, [], ◌∷◌, ◌++◌, map, ℕ, ◌+◌, ◌-◌, ◌*◌, ◌^◌, ℤ, pos, negsuc, neg_ℤ, ◌-ℤ◌, replicate}
+use Rattle.std.specs.Prelude.{◌≡◌, refl, Bool, true, false, List, [], ◌∷◌, ◌++◌, map, ℕ, ◌-◌, ◌^◌, ℤ, pos, negsuc, neg_ℤ, ◌-ℤ◌, replicate}
 use Rattle.integers.specs.Integer.{floor_mod, clip, wrap, is_even}
 use Rattle.bitstream.specs.Stream.{odd, bits, number, unpack, first_bytes, pack, zeros, filled, field, bad}
 use Rattle.settings.specs.declared.Settings.{Settings}

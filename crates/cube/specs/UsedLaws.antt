@@ -1,14 +1,13 @@
 -- The body looks at no setting that is none: with those as 0 and unused table slots as 0 it is the same.
-use Rattle.std.specs.Prelude.{◌≡◌, Bool, false, cond, ◌&&◌, ◌||◌, ℤ, pos, eqb}
+use Rattle.std.specs.Prelude.{◌≡◌, Bool, false, cond, ◌&&◌, ◌||◌, ℤ, pos}
 use Rattle.std.proofs.Math.Path.{refl, ap, ap₂}
-use Rattle.std.proofs.Common.{sym, ◌∙◌, arith}
+use Rattle.std.proofs.Common.{◌∙◌, arith}
 use Rattle.std.proofs.Math.Bool.{true}
 use mathlib.Core.List.{List, [], ◌∷◌, ◌++◌}
-use Prim.Native.Nat.{ℕ, zero, suc, ◌+◌, ◌*◌, ◌^◌, ◌<◌, ◌≤◌}
+use Prim.Native.Nat.{ℕ, zero, suc, ◌+◌, ◌^◌, ◌<◌, ◌≤◌}
 use Rattle.std.proofs.Math.IntN.{nat_abs}
 use Rattle.std.proofs.Math.Dec.{ltb}
-use borrow.Author.Tests.{lt-ltb, eq-eqb}
-use Rattle.settings.specs.declared.Image as declared
+use borrow.Author.Tests.{lt-ltb}
 use Rattle.settings.specs.declared.Settings.{Settings}
 use Rattle.settings.specs.Lists.{join, one}
 use Rattle.settings.specs.Range.{lowest, highest, middle}
@@ -23,7 +22,7 @@ use Rattle.coder.specs.declared.Statistics.{Statistics}
 use Rattle.coder.specs.Statistics.{initial_parameter, initial_accumulator, initial_statistics, statistics_behind, statistics_at}
 use Rattle.coder.specs.Encoding.{encode, encode_at}
 use Rattle.header.specs.Parts.{used_image, used_predictor, used_coder}
-use Rattle.header.specs.Tables.{used, slots, used_tables}
+use Rattle.header.specs.Tables.{used, used_tables}
 use Rattle.header.specs.Write.{used_settings}
 use Rattle.body.specs.Order.{Place, band_interleaved, order}
 use Rattle.body.specs.OrderLaws.{All, Inside, inside_order}

@@ -1,5 +1,5 @@
 -- Which refusals the reader's parts give: those of the header touch nothing, and every value is at most the house limit on samples.
-use Rattle.std.specs.Prelude.{◌≡◌, refl, Bool, cond, ℕ, suc, ◌+◌, ◌-◌, ◌*◌, ◌≤◌, ℤ, length}
+use Rattle.std.specs.Prelude.{◌≡◌, refl, Bool, cond, ℕ, suc, ◌+◌, ◌*◌, ◌≤◌, ℤ, length}
 use Rattle.std.proofs.Common.{subst, arith}
 use Rattle.std.proofs.Math.Bool.{true, false}
 use mathlib.Core.List.{List, [], ◌∷◌}

@@ -5,7 +5,6 @@ use Rattle.refusals.specs.declared.Checked.{Checked}
 use Rattle.refusals.specs.declared.Checked.TheVariants as checking
 use Rattle.refusals.specs.Tests.{first_hit}
 use Rattle.refusals.specs.Reading.{Read, unless}
-use Rattle.settings.specs.declared.Settings.{Settings}
 use Rattle.header.specs.Read.{read_header}
 use Rattle.cube.specs.declared.Packed.{Packed}
 use Rattle.cube.specs.declared.Packed.TheVariants as packing

@@ -1,5 +1,5 @@
 -- The boundary's calls have one answer each, and every value in an answer is below 2^56.
-use Rattle.std.specs.Prelude.{◌≡◌, refl, Bool, cond, List, [], ◌∷◌, ℕ, ◌+◌, ◌-◌, ◌^◌, ◌≤◌, ◌<◌, ℤ, length, ltb, eqb}
+use Rattle.std.specs.Prelude.{◌≡◌, refl, Bool, cond, List, [], ◌∷◌, ℕ, ◌+◌, ◌≤◌, ◌<◌, ℤ, length, ltb, eqb}
 use Rattle.std.proofs.Common.{sym, ◌∙◌, subst}
 use Rattle.std.proofs.Math.Bool.{true, false}
 use Rattle.std.proofs.Math.Decide.{dec_le}
@@ -14,7 +14,6 @@ use Rattle.refusals.specs.Refusals.{value}
 use Rattle.refusals.specs.Tests.{Test, first_hit}
 use Rattle.refusals.specs.TestLaws.{passes_all}
 use Rattle.refusals.specs.Reading.{Read, got, refused}
-use Rattle.refusals.specs.ReadingLaws.{passed}
 use Rattle.settings.specs.declared.Settings.{Settings}
 use Rattle.settings.specs.Legal.{settings_legal, limited, sample_count}
 use Rattle.settings.specs.Limits.{most_samples, most_file_bytes}

@@ -1,5 +1,5 @@
 -- Slots as the calls leave and take them: the words say number and value, slots that were written are read back, and what passes the slots' tests is the cube's.
-use Rattle.std.specs.Prelude.{◌≡◌, refl, Bool, true, false, not, ◌||◌, List, ◌++◌, ℕ, ◌+◌, ◌<◌, ◌≤◌, ℤ, pos, length}
+use Rattle.std.specs.Prelude.{◌≡◌, refl, Bool, true, false, ◌||◌, List, ◌++◌, ℕ, ◌<◌, ◌≤◌, ℤ, pos, length}
 use Rattle.std.proofs.Common.{◌∙◌, le-ltb, lt-ltb, le-leb}
 use Rattle.std.proofs.Math.Nat.{mul-add-div_right, mul-add-mod_self_right, mod-eq_of_lt, div-eq_of_lt}
 use native.Mathlib.Omega.{arith}

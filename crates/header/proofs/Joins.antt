@@ -1,15 +1,15 @@
 -- Parts that are put one after the other, each of few bits: all the writer's loops.
 use mathlib.Core.Path.{◌≡◌, refl, sym, ap, ◌∙◌}
-use mathlib.Core.Bool.{Bool, true, cond}
+use mathlib.Core.Bool.{Bool}
 use mathlib.Core.List.{List, [], ◌∷◌, ◌++◌}
-use Prim.Native.Nat.{ℕ, zero, suc, ◌+◌, ◌*◌, ◌%◌, ◌^◌, ◌≤◌, ◌<◌}
+use Prim.Native.Nat.{ℕ, ◌+◌, ◌*◌, ◌%◌, ◌^◌, ◌≤◌, ◌<◌}
 use native.Mathlib.Nat.{zero-add, mod-lt}
 use native.Mathlib.Numerals.{add-one, one-add}
 use native.Mathlib.Omega.{arith}
 use lib.ListN.{length, get_or}
 use lib.Pow.{pow_pos}
-use Rattle.bitstream.specs.Stream.{bits, zeros}
-use Rattle.bitstream.specs.Laws.{length_bits, bits_low}
+use Rattle.bitstream.specs.Stream.{bits}
+use Rattle.bitstream.specs.Laws.{bits_low}
 use Rattle.bitstream.specs.Writer.{Put}
 use Rattle.bitstream.specs.declared.write.Tail.{Tail}
 use Rattle.bitstream.proofs.Writes.{put_then, put_as, put_none}

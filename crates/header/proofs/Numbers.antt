@@ -1,8 +1,8 @@
 -- Fields in a row are read one after the other: each stands behind the widths before it.
 use mathlib.Core.Path.{◌≡◌, refl, sym, ap, ◌∙◌}
-use mathlib.Core.Bool.{Bool, true, cond, ◌&&◌, and-eq-true_iff}
-use mathlib.Core.List.{List, [], ◌∷◌, ◌++◌}
-use Prim.Native.Nat.{ℕ, zero, suc, ◌+◌, ◌-◌, ◌^◌, ◌≤◌, ◌<◌}
+use mathlib.Core.Bool.{Bool, true, ◌&&◌, and-eq-true_iff}
+use mathlib.Core.List.{List, [], ◌∷◌}
+use Prim.Native.Nat.{ℕ, zero, suc, ◌+◌, ◌≤◌, ◌<◌}
 use native.Mathlib.Numerals.{add-one}
 use native.Mathlib.Omega.{arith}
 use borrow.Author.Tests.{leb-true, le-leb}
@@ -11,8 +11,7 @@ use lib.ListN.{length, take, drop, get_or, set, length-set}
 use lib.Seq.{drop-drop, take-suc, take-suc-set, take_all}
 use Rattle.bitstream.specs.Stream.{number}
 use Rattle.bitstream.specs.Reader.{found}
-use Rattle.bitstream.specs.declared.read.Got.{Got}
-use Rattle.bitstream.specs.declared.read.Got.TheVariants.{Value, Short, Bad}
+use Rattle.bitstream.specs.declared.read.Got.TheVariants.{Value}
 use Rattle.header.specs.Fields.{split}
 use Rattle.header.specs.FieldLaws.{total}
 use Rattle.header.specs.Plain.{fitting}

@@ -1,11 +1,11 @@
 -- The values that legal settings and tables give to the header's fields, and the parts put together.
-use mathlib.Core.Path.{◌≡◌, refl, sym, ap, ◌∙◌}
-use mathlib.Core.Bool.{Bool, true, false, cond, ◌&&◌, and-eq-true_iff}
-use mathlib.Core.List.{List, [], ◌∷◌, ◌++◌}
-use Prim.Native.Nat.{ℕ, ◌+◌, ◌-◌, ◌*◌, ◌≤◌, ◌<◌}
+use mathlib.Core.Path.{◌≡◌, sym, ap, ◌∙◌}
+use mathlib.Core.Bool.{Bool, true, false, ◌&&◌, and-eq-true_iff}
+use mathlib.Core.List.{List, [], ◌++◌}
+use Prim.Native.Nat.{ℕ, ◌-◌, ◌*◌, ◌≤◌, ◌<◌}
 use native.Mathlib.Nat.{mul-le-mul}
 use native.Mathlib.Omega.{arith}
-use lib.IntN.{ℤ, pos, negsuc, nat_abs}
+use lib.IntN.{ℤ, pos, negsuc}
 use lib.Dec.{leb→le}
 use lib.Signed.{◌≤ℤ◌}
 use mir.Syntax.{w32}
@@ -24,7 +24,7 @@ use Rattle.settings.specs.ListLaws.{length_join_same}
 use Rattle.settings.specs.Legal.{settings_legal, image_legal, predictor_legal, coder_legal}
 use Rattle.settings.specs.Limits.{most_bands}
 use Rattle.settings.specs.LegalLaws.{LegalSettings, LegalPredictor, Power, legal_settings, limited_facts}
-use Rattle.settings.specs.Tables.{table_stride, parameter_slot, entry, component_count, weight_legal, accumulator_legal, every, band_legal}
+use Rattle.settings.specs.Tables.{parameter_slot, entry, component_count, weight_legal, accumulator_legal}
 use Rattle.settings.specs.TableLaws.{components_fit, legal_tables, weight_legal_lem, accumulator_legal_lem}
 use Rattle.header.specs.Parts.{exponent_of}
 use Rattle.header.specs.PartLaws.{exponent_power, ≤ℤ-trans}

@@ -1,5 +1,5 @@
 -- Fields of fixed width, the most significant bit first.
-use Rattle.std.specs.Prelude.{Bool, true, false, cond, ◌&&◌, List, [], ◌∷◌, ◌++◌, ℕ, ◌+◌, take, drop}
+use Rattle.std.specs.Prelude.{Bool, true, false, cond, ◌&&◌, List, [], ◌∷◌, ◌++◌, ℕ, take, drop}
 use Rattle.std.specs.Bool.{beq}
 use Rattle.bitstream.specs.Stream.{bits, number}
 

@@ -1,5 +1,5 @@
 -- The header both ways: what is written for legal settings is read back to its last bit, and what is read was written so and by no other settings.
-use Rattle.std.specs.Prelude.{◌≡◌, refl, Bool, true, false, cond, ◌&&◌, List, [], ◌∷◌, ◌++◌, ℕ, ◌*◌, ◌%◌, ◌≤◌, ◌<◌, ℤ, length}
+use Rattle.std.specs.Prelude.{◌≡◌, refl, Bool, true, false, cond, ◌&&◌, List, [], ◌∷◌, ◌++◌, ℕ, ◌*◌, ◌%◌, ◌≤◌, ℤ, length}
 use Rattle.std.proofs.Common.{sym, ap, ◌∙◌, append_assoc, arith, length-append}
 use Rattle.bitstream.specs.Stream.{bits, filled}
 use Rattle.bitstream.specs.Laws.{filled_whole, absurd_path}

@@ -1,10 +1,10 @@
 -- The header read off bits, with refusals 7, 8, 12 and 4 in document 01's order.
 -- A part is refused 8 unless its settings are legal and its bits are, to the last, those that these settings write:
 -- so a reserved bit, an M beside band-sequential order, a Q beside default weights, a table without its flag are refused.
-use Rattle.std.specs.Prelude.{Bool, true, cond, not, ◌&&◌, List, [], ◌∷◌, ℕ, ◌+◌, ◌-◌, ◌*◌, ◌^◌, ℤ, pos, length, take, drop, leb, ltb, eqb}
+use Rattle.std.specs.Prelude.{Bool, true, cond, not, ◌&&◌, List, [], ◌∷◌, ℕ, ◌+◌, ◌-◌, ◌*◌, ℤ, length, take, drop, leb, ltb, eqb}
 use Rattle.bitstream.specs.Stream.{filled, filling}
 use Rattle.refusals.specs.declared.Refusal.TheVariants.{EndsInHeader, IllegalField, HouseLimit, BlockCoder}
-use Rattle.refusals.specs.Tests.{Test, ◌⇒◌, first_hit}
+use Rattle.refusals.specs.Tests.{◌⇒◌, first_hit}
 use Rattle.refusals.specs.Reading.{Read, got, and_then, unless}
 use Rattle.settings.specs.declared.Image.{Image}
 use Rattle.settings.specs.declared.Predictor.{Predictor}

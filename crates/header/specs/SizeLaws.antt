@@ -1,9 +1,8 @@
 -- The tables are as long as the settings say, and short: at most 18 components a band, of at most 22 bits.
-use Rattle.std.specs.Prelude.{◌≡◌, refl, Bool, true, false, cond, List, [], ◌++◌, ℕ, zero, suc, ◌+◌, ◌*◌, ◌/◌, ◌%◌, ◌≤◌, ◌<◌, ℤ, length}
-use Rattle.std.proofs.Common.{sym, ap, ◌∙◌, mul-le-mul, add-one, arith, length-append}
-use Rattle.std.proofs.lemmas.Bool.{false≢true}
+use Rattle.std.specs.Prelude.{◌≡◌, refl, Bool, true, false, cond, List, [], ℕ, zero, suc, ◌+◌, ◌*◌, ◌/◌, ◌≤◌, ℤ, length}
+use Rattle.std.proofs.Common.{ap, ◌∙◌, mul-le-mul, add-one, arith, length-append}
 use Rattle.std.proofs.lemmas.List.{length-replicate}
-use Rattle.bitstream.specs.Stream.{filling, filled}
+use Rattle.bitstream.specs.Stream.{filled}
 use Rattle.bitstream.specs.Laws.{filling_lt}
 use Rattle.settings.specs.declared.Image.{Image}
 use Rattle.settings.specs.declared.Predictor.{Predictor}
@@ -12,10 +11,10 @@ use Rattle.settings.specs.declared.Settings.{Settings}
 use Rattle.settings.specs.Lists.{sum_below}
 use Rattle.settings.specs.Legal.{predictor_legal}
 use Rattle.settings.specs.Limits.{most_bands, most_components, most_weight_bits, most_parameter_bits}
-use Rattle.settings.specs.LegalLaws.{LegalPredictor, LegalSettings, legal_predictor, predictor_legal_lem}
+use Rattle.settings.specs.LegalLaws.{LegalSettings, legal_predictor, predictor_legal_lem}
 use Rattle.settings.specs.Tables.{component_count}
 use Rattle.settings.specs.TableLaws.{components_fit}
-use Rattle.header.specs.Tables.{components_before, weight_table, accumulator_table}
+use Rattle.header.specs.Tables.{components_before}
 use Rattle.header.specs.TableLaws.{length_weights, length_accumulators}
 use Rattle.header.specs.PartLaws.{length_image, length_predictor, length_coder}
 use Rattle.header.specs.Write.{weight_part, accumulator_part, header}

@@ -1,5 +1,5 @@
 -- How many bits the two tables take with their fill, from the settings alone.
-use Rattle.std.specs.Prelude.{Bool, cond, ℕ, ◌+◌, ◌*◌}
+use Rattle.std.specs.Prelude.{cond, ℕ, ◌+◌, ◌*◌}
 use Rattle.bitstream.specs.Stream.{filling}
 use Rattle.settings.specs.declared.Image.{Image}
 use Rattle.settings.specs.declared.Predictor.{Predictor}

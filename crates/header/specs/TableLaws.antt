@@ -1,5 +1,5 @@
 -- The two tables both ways: entries written and read off again, bits read off and written again, and the table area with zero in the slots unused.
-use Rattle.std.specs.Prelude.{◌≡◌, refl, ◌⊎◌, Bool, true, false, not, cond, ◌&&◌, List, ◌++◌, ℕ, zero, suc, ◌+◌, ◌-◌, ◌*◌, ◌%◌, ◌^◌, ◌≤◌, ◌<◌, leb, ℤ, pos, negsuc, neg_ℤ, ◌-ℤ◌, length, take, drop}
+use Rattle.std.specs.Prelude.{◌≡◌, refl, ◌⊎◌, Bool, true, false, cond, ◌&&◌, List, ◌++◌, ℕ, zero, suc, ◌+◌, ◌-◌, ◌*◌, ◌%◌, ◌^◌, ◌≤◌, ◌<◌, leb, ℤ, pos, negsuc, neg_ℤ, ◌-ℤ◌, length, take, drop}
 use Rattle.std.proofs.Common.{sym, ◌∙◌, append_assoc, zero-add, mod-eq_of_lt, mul-add, mul-le-mul_left, arith, length-append, length-drop, take_at, drop_at, drop-drop, length-take-le, pow_pos}
 use Rattle.std.proofs.Math.Path.{ap}
 use Rattle.std.proofs.Math.Logic.{inl, inr, ⊎_elim}
@@ -9,7 +9,7 @@ use Rattle.std.proofs.Math.Dec.{ltb, eqb, leb-suc-suc}
 use Rattle.std.proofs.Math.IntN.{nat_abs}
 use Rattle.std.specs.Int.Signed.{le_z, lt_z}
 use Rattle.std.proofs.Math.Seq.{take_all}
-use Rattle.bitstream.specs.Stream.{bits, number}
+use Rattle.bitstream.specs.Stream.{bits}
 use Rattle.bitstream.specs.Laws.{length_bits, number_bits, bits_number}
 use Rattle.settings.specs.declared.Predictor.{Predictor}
 use Rattle.settings.specs.declared.Settings.{Settings}

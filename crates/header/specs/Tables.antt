@@ -1,5 +1,5 @@
 -- The two tables (5.3.3.2, 5.3.4.2.2) as bits, and the table area that they fill.
-use Rattle.std.specs.Prelude.{Bool, true, false, cond, ◌&&◌, ◌||◌, List, ℕ, suc, ◌+◌, ◌-◌, ◌*◌, ◌^◌, ℤ, pos, negsuc, nat_abs, ◌-ℤ◌, take, drop, ltb, eqb}
+use Rattle.std.specs.Prelude.{Bool, cond, ◌&&◌, ◌||◌, List, ℕ, suc, ◌+◌, ◌-◌, ◌*◌, ◌^◌, ℤ, pos, negsuc, nat_abs, ◌-ℤ◌, take, drop, ltb, eqb}
 use Rattle.bitstream.specs.Stream.{bits, number}
 use Rattle.settings.specs.declared.Predictor.{Predictor}
 use Rattle.settings.specs.declared.Settings.{Settings}

@@ -1,5 +1,5 @@
 -- The header as bits (5.3.1): three parts, each of whole bytes.
-use Rattle.std.specs.Prelude.{Bool, cond, List, [], ◌++◌, ℕ, ℤ}
+use Rattle.std.specs.Prelude.{Bool, cond, List, [], ◌++◌, ℤ}
 use Rattle.bitstream.specs.Stream.{filled}
 use Rattle.settings.specs.declared.Settings.{Settings}
 use Rattle.header.specs.Fields.{fields}

@@ -19,12 +19,12 @@ use Rattle.header_reader.specs.declared.read.PredictorRead.TheVariants as predic
 use Rattle.header_reader.specs.declared.read.CoderRead.TheVariants as coder
 use Rattle.header.specs.Tables.{tables_of}
 use Rattle.header.specs.Read.{read_image, read_predictor, read_weights, read_coder, read_accumulators, Header, read_header}
-use Rattle.header.specs.ReadLaws.{AccumulatorsAre, read_accumulators_lem}
+use Rattle.header.specs.ReadLaws.{read_accumulators_lem}
 use Rattle.header.specs.Sizes.{weights_size, accumulators_size}
 use Rattle.header_values.specs.Progress.{ImageDone, PredictorDone, WeightsDone, CoderDone}
 use Rattle.header_values.proofs.Positions.{behind, image_got, predictor_got, weights_got, coder_got, coder_facts, header_got}
 use Rattle.header_reader.specs.Answers.{image_read, predictor_read, coder_read, table_read, Begins}
-use Rattle.header_reader.proofs.Answering.{Got, was_got, was_refused}
+use Rattle.header_reader.proofs.Answering.{was_got, was_refused}
 use Rattle.header.specs.SizeLaws.{length_accumulators_part}
 
 -- ---- what an answer says

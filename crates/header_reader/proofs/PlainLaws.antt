@@ -14,7 +14,7 @@ use lib.Pow.{pow-lt, pow_mono}
 use Rattle.settings.specs.declared.Image.{Image}
 use Rattle.settings.specs.Legal.{predictor_legal}
 use Rattle.settings.specs.LegalLaws.{legal_predictor, Power}
-use Rattle.settings.specs.Truths.{parts, whole, or_else}
+use Rattle.settings.specs.Truths.{parts, whole}
 use Rattle.header.specs.Fields.{fields, split, same, flag}
 use Rattle.header.specs.FieldLaws.{widths, values, total, split_lt, split_same, same_split}
 use Rattle.header.specs.Places.{◌‼◌, user_data, x_size, y_size, z_size, sample_type, reserved_behind_type, large_range_flag, dynamic_range, encoding_order, interleaving_depth, reserved_before_word, word_size, coder_type, hybrid_coder, reserved_behind_coder, fidelity_control, reserved_behind_fidelity, supplementary_tables, reserved_in_front, representative_flag, prediction_bands, prediction_mode, exponent_offset_flag, local_sum_type, narrow_sums, register_size, weight_resolution, exponent_interval, initial_exponent, final_exponent, exponent_offset_table_flag, weight_method, weight_table_flag, weight_precision, unary_limit, rescaling_size, initial_count, accumulator_constant, accumulator_table_flag}

@@ -1,19 +1,19 @@
 -- A table is there with its fill, which is zero, exactly when the definition reads it; its entries stand in the file in a row.
 use mathlib.Core.Path.{◌≡◌, refl, sym, ap, ap₂, ◌∙◌}
-use mathlib.Core.Bool.{Bool, true, false, not, cond, ◌&&◌, beq}
+use mathlib.Core.Bool.{Bool, true, false, ◌&&◌}
 use mathlib.Core.List.{List, [], ◌∷◌, ◌++◌}
-use Prim.Native.Nat.{ℕ, zero, suc, ◌+◌, ◌-◌, ◌*◌, ◌%◌, ◌^◌, ◌≤◌, ◌<◌}
+use Prim.Native.Nat.{ℕ, zero, suc, ◌+◌, ◌-◌, ◌*◌, ◌≤◌, ◌<◌}
 use native.Mathlib.Nat.{mod-eq_of_lt}
 use native.Mathlib.Omega.{arith}
 use borrow.Author.Tests.{ltb-false, eq-eqb, eqb-true}
 use lib.Dec.{leb, ltb, eqb}
-use lib.ListN.{length, take, drop, length-drop, length-take}
-use lib.Seq.{take-add, drop-drop, length-take-le, drop_at}
+use lib.ListN.{length, take, drop, length-drop}
+use lib.Seq.{take-add, drop-drop, length-take-le}
 use lib.Pow.{pow_pos}
 use Rattle.bitstream.specs.Stream.{bits, number, zeros, filling, filled}
 use Rattle.bitstream.specs.Laws.{number_bits, bits_number, bits_zero}
 use Rattle.refusals.specs.declared.Refusal.TheVariants.{EndsInHeader}
-use Rattle.refusals.specs.Reading.{Read, got, refused}
+use Rattle.refusals.specs.Reading.{got, refused}
 use Rattle.settings.specs.declared.Image.{Image}
 use Rattle.settings.specs.declared.Predictor.{Predictor}
 use Rattle.settings.specs.declared.Coder.{Coder}
@@ -21,7 +21,7 @@ use Rattle.settings.specs.Tables.{every}
 use Rattle.header.specs.Fields.{same}
 use Rattle.header.specs.FieldLaws.{same_true, same_refl}
 use Rattle.header.specs.Tables.{number_at}
-use Rattle.header.specs.Read.{present, read_table, read_weights, read_accumulators}
+use Rattle.header.specs.Read.{read_table, read_weights, read_accumulators}
 use Rattle.header.specs.Sizes.{padded, weight_bits}
 use Rattle.header.specs.SizeLaws.{cond_true}
 use Rattle.header_values.proofs.Positions.{number_in_file}

@@ -24,7 +24,7 @@ use Rattle.settings.specs.LegalLaws.{legal_predictor}
 use Rattle.settings.specs.Tables.{table_stride, parameter_slot, entry, component_count}
 use Rattle.settings.specs.TableLaws.{components_fit}
 use Rattle.header.specs.Parts.{image_bits, predictor_end, fixed_bits, coder_bits}
-use Rattle.header.specs.Tables.{signed_of, number_at, components_before, used, slots, tables_of}
+use Rattle.header.specs.Tables.{signed_of, number_at, components_before, used, tables_of}
 use Rattle.header.specs.TableLaws.{entry_slots, used_weight, used_accumulator, used_cases, length_tables_of}
 use Rattle.header.specs.Read.{read_image, read_predictor, read_weights, read_coder, read_accumulators, Header, read_header}
 use Rattle.header.specs.ReadLaws.{read_weights_lem, read_accumulators_lem}

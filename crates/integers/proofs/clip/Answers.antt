@@ -1,10 +1,6 @@
 -- `integers::clip` meets its contract: its two tests are the definition's.
-use mathlib.Core.Path.{◌≡◌}
-use mathlib.Core.Bool.{false}
-use lib.Signed.{lt_z}
 use mir.Facts.{to_z-of_z}
 use Rattle.integers.specs.Integer.{clip}
-use borrow.Author.Rules.{rules}
 use Rattle.integers.proofs.clip.Goals as goal
 
 pub returns-then-x-low : goal.returns-then-x-low

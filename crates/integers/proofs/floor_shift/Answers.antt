@@ -2,7 +2,6 @@
 use Prim.Native.Nat.{◌^◌}
 use mir.Facts.{to_z-of_z}
 use Rattle.integers.specs.Floors.{shr_floor, floor_fits}
-use borrow.Author.Rules.{rules}
 use Rattle.integers.proofs.floor_shift.Goals as goal
 
 pub returns : goal.returns

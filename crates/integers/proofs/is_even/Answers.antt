@@ -4,7 +4,6 @@ use Prim.Native.Nat.{ℕ, ◌%◌}
 use lib.Dec.{eqb}
 use mir.Facts.{to_z-of_z}
 use Rattle.integers.specs.Integer.{is_even}
-use borrow.Author.Rules.{rules}
 use Rattle.integers.proofs.is_even.Goals as goal
 
 pub returns : goal.returns

@@ -1,10 +1,9 @@
 -- `integers::oriented` meets its contract: −x is 0 − x, which fits, since x is not the least number.
-use lib.IntN.{pos, ◌-ℤ◌, +ℤ_idl}
+use lib.IntN.{pos, ◌-ℤ◌}
 use mir.Syntax.{w64}
 use mir.Val.{SFits}
 use mir.Facts.{to_z-of_z}
 use Rattle.integers.specs.Parts.{zs, sub, abs_parts}
-use borrow.Author.Rules.{rules}
 use Rattle.integers.proofs.oriented.Goals as goal
 
 negated_fits : (c : goal.Else-up) → SFits w64 (pos 0 -ℤ c.args.x)

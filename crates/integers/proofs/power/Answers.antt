@@ -4,7 +4,6 @@ use lib.Pow.{pow-lt}
 use mir.Syntax.{w64}
 use mir.Facts.{to_z_pos}
 use Rattle.integers.proofs.Shifts.{one_shifted}
-use borrow.Author.Rules.{rules}
 use Rattle.integers.proofs.power.Goals as goal
 
 pub returns : goal.returns

@@ -1,6 +1,5 @@
 -- `integers::power_of` meets its contract: below 2^32 the shifted 1 loses no bit.
 use Rattle.integers.proofs.Shifts.{one_shifted}
-use borrow.Author.Rules.{rules}
 use Rattle.integers.proofs.power_of.Goals as goal
 
 pub returns : goal.returns

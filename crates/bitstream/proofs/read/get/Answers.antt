@@ -3,7 +3,6 @@ use native.Mathlib.Nat.{lt_of_lt_of_le}
 use native.Mathlib.Omega.{arith}
 use lib.Pow.{pow_mono}
 use Rattle.bitstream.proofs.Windows.{found_short, found_value, top_lt}
-use borrow.Author.Rules.{rules}
 use Rattle.bitstream.proofs.read.get.Goals as goal
 
 pub returns-then-s-next : goal.returns-then-s-next

@@ -1,11 +1,9 @@
 -- The loop reads the bytes as one number, whose bits are theirs, and the shift moves them to the top. Assumes nothing.
-use mathlib.Core.Path.{◌≡◌, refl}
-use Prim.Native.Nat.{◌+◌, ◌-◌, ◌≤◌}
+use mathlib.Core.Path.{refl}
+use Prim.Native.Nat.{◌+◌}
 use native.Mathlib.Omega.{arith}
-use lib.ListN.{length, take, drop}
 use Rattle.bitstream.specs.Stream.{number, unpack}
 use Rattle.bitstream.proofs.Windows.{none_sees, number_more, number_small, tail_sees}
-use borrow.Author.Rules.{rules}
 use Rattle.bitstream.proofs.read.load_tail.Goals as goal
 
 pub returns-then-s-p : goal.returns-then-s-p

@@ -2,7 +2,6 @@
 use Prim.Native.Nat.{◌/◌}
 use native.Mathlib.Omega.{arith}
 use Rattle.bitstream.proofs.Windows.{word_sees, sees}
-use borrow.Author.Rules.{rules}
 use Rattle.bitstream.proofs.read.window.Goals as goal
 
 pub returns-then-p-s : goal.returns-then-p-s

@@ -8,7 +8,6 @@ use lib.Pow.{pow_pos}
 use Rattle.bitstream.specs.Laws.{length_bits, filling_lt}
 use Rattle.bitstream.specs.Stream.{bits, filling}
 use Rattle.bitstream.proofs.Writes.{put_as, put_then, zeros_two}
-use borrow.Author.Rules.{rules}
 use Rattle.bitstream.proofs.write.fill.Goals as goal
 
 pub overflow_sub-more : goal.overflow_sub-more

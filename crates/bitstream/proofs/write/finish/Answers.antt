@@ -1,12 +1,8 @@
 -- Each turn moves eight bits from the word to a byte; the stream stays the same. Assumes nothing.
-use mathlib.Core.Path.{◌≡◌, refl}
-use mathlib.Core.List.{[]}
-use Prim.Native.Nat.{◌%◌, ◌^◌, ◌<◌}
+use mathlib.Core.Path.{refl}
 use native.Mathlib.Omega.{arith}
-use lib.ListN.{length, length-set}
-use Rattle.bitstream.specs.Writer.{Put}
+use lib.ListN.{length-set}
 use Rattle.bitstream.proofs.Writes.{put_none, put_byte, put_then, put_done}
-use borrow.Author.Rules.{rules}
 use Rattle.bitstream.proofs.write.finish.Goals as goal
 
 pub loop-count-init : goal.loop-count-init

@@ -1,11 +1,9 @@
 -- Each turn moves eight bits from the word to a byte; the stream stays the same. Assumes nothing.
-use mathlib.Core.Path.{◌≡◌, refl}
+use mathlib.Core.Path.{◌≡◌}
 use mathlib.Core.List.{[]}
 use Prim.Native.Nat.{◌%◌, ◌^◌, ◌<◌}
-use native.Mathlib.Omega.{arith}
-use lib.ListN.{length, length-set}
+use lib.ListN.{length}
 use Rattle.bitstream.specs.Writer.{Put}
-use Rattle.bitstream.proofs.Writes.{put_none, put_byte, put_then, put_done}
 use Rattle.bitstream.proofs.write.finish.Given as goal
 
 abbrev pub invariant-loop-count : goal.invariant-loop-count

@@ -1,7 +1,6 @@
 -- Out of range `set` changes nothing, as the code does. Assumes nothing.
 use mathlib.Core.Path.{sym}
 use lib.Seq.{set_out}
-use borrow.Author.Rules.{rules}
 use Rattle.bitstream.proofs.write.store_byte.Goals as goal
 
 pub returns-else-at-out : goal.returns-else-at-out

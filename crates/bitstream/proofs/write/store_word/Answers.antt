@@ -2,7 +2,6 @@
 use native.Mathlib.Omega.{arith}
 use lib.ListN.{length-set}
 use Rattle.bitstream.proofs.Writes.{stored, not_stored}
-use borrow.Author.Rules.{rules}
 use Rattle.bitstream.proofs.write.store_word.Goals as goal
 
 pub bounds-out-at-then-at-out : goal.bounds-out-at-then-at-out

@@ -2,7 +2,6 @@
 use mathlib.Core.Path.{sym, ◌∙◌}
 use native.Mathlib.Omega.{arith}
 use Rattle.body_value.proofs.Bands.{prefix_in, prefix_long, weighing, x_long, keeping, started}
-use borrow.Author.Rules.{rules}
 use Rattle.body_value.proofs.band.begin_band.Goals as goal
 
 pub slice_bounds-initial_weights-end : goal.slice_bounds-initial_weights-end

@@ -1,7 +1,6 @@
 -- The first value as it is; a later one with the statistics held, which step behind it.
 use native.Mathlib.Omega.{arith}
 use Rattle.body_value.proofs.Codes.{plain_in, first_coded, counting, keeping, putting, later_coded}
-use borrow.Author.Rules.{rules}
 use Rattle.body_value.proofs.coding.coded.Goals as goal
 
 pub put-requires : goal.put-requires

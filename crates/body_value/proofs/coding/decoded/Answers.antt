@@ -8,7 +8,6 @@ use Rattle.bitstream.specs.Stream.{unpack}
 use Rattle.coder.specs.Codeword.{parse}
 use Rattle.coder.specs.Statistics.{parameter}
 use Rattle.body_value.proofs.Codes.{plain_at, first_decoded, counting, keeping, getting, off_is, delta_small, later_found}
-use borrow.Author.Rules.{rules}
 use Rattle.body_value.proofs.coding.decoded.Goals as goal
 
 pub get-requires : goal.get-requires

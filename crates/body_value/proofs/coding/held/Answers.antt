@@ -1,6 +1,5 @@
 -- Both numbers are read off their slots.
 use Rattle.body_value.specs.Coder.{statistics_in}
-use borrow.Author.Rules.{rules}
 use Rattle.body_value.proofs.coding.held.Goals as goal
 
 pub returns : goal.returns

@@ -3,7 +3,6 @@ use mathlib.Core.Path.{◌∙◌, ap}
 use mathlib.Core.List.{List}
 use lib.IntN.{ℤ, pos}
 use lib.ListN.{set}
-use borrow.Author.Rules.{rules}
 use Rattle.body_value.proofs.coding.keep.Goals as goal
 
 pub returns : goal.returns

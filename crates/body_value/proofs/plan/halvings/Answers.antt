@@ -1,8 +1,6 @@
 -- What is left and how often it was halved say together how often the whole is.
-use Prim.Native.Nat.{◌-◌}
 use native.Mathlib.Omega.{arith}
-use Rattle.body_value.proofs.Plans.{Halved, halved_begin, halved_more, halved_end}
-use borrow.Author.Rules.{rules}
+use Rattle.body_value.proofs.Plans.{halved_begin, halved_more, halved_end}
 use Rattle.body_value.proofs.plan.halvings.Goals as goal
 
 pub loop-rest-init : goal.loop-rest-init

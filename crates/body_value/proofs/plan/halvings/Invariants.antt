@@ -1,7 +1,6 @@
 -- What is left and how often it was halved say together how often the whole is.
 use Prim.Native.Nat.{◌-◌}
-use native.Mathlib.Omega.{arith}
-use Rattle.body_value.proofs.Plans.{Halved, halved_begin, halved_more, halved_end}
+use Rattle.body_value.proofs.Plans.{Halved}
 use Rattle.body_value.proofs.plan.halvings.Given as goal
 
 abbrev pub invariant-loop-rest : goal.invariant-loop-rest

@@ -7,7 +7,6 @@ use mir.Facts.{to_z-of_z}
 use Rattle.integers.specs.Laws.{ok}
 use Rattle.body_value.specs.Plan.{plan_of}
 use Rattle.body_value.proofs.Plans.{area_fits, depth_in, interval_most}
-use borrow.Author.Rules.{rules}
 use Rattle.body_value.proofs.plan.plan_of.Goals as goal
 
 pub lowest-low-requires : goal.lowest-low-requires

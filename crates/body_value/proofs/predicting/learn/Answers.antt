@@ -11,7 +11,6 @@ use Rattle.integers.specs.Laws.{sz_abs, sz_fits}
 use Rattle.predictor.specs.WeightUpdate.{scaled_error, exponent_by}
 use Rattle.body_value.proofs.Plans.{legal, vmin_fits, vmax_fits}
 use Rattle.body_value.proofs.Predicts.{n_few, ws_long, us_long, schedule, stepping, unlearnt, learnt_by}
-use borrow.Author.Rules.{rules}
 use Rattle.body_value.proofs.predicting.learn.Goals as goal
 
 pub returns-then-place-eq0 : goal.returns-then-place-eq0

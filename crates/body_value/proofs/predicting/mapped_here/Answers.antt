@@ -1,5 +1,4 @@
 -- The sample under its prediction, and what is learnt from it.
-use mathlib.Core.Path.{◌≡◌}
 use Prim.Native.Nat.{◌+◌, ◌*◌}
 use native.Mathlib.Omega.{arith}
 use lib.IntN.{pos}
@@ -10,7 +9,6 @@ use mir.Facts.{to_z-of_z}
 use Rattle.integers.specs.Laws.{ok}
 use Rattle.body_value.proofs.Plans.{low_fits, high_fits}
 use Rattle.body_value.proofs.Predicts.{index_in, index_small, sample_at, learning, mapping, mapped_so}
-use borrow.Author.Rules.{rules}
 use Rattle.body_value.proofs.predicting.mapped_here.Goals as goal
 
 pub overflow_mul-at : goal.overflow_mul-at

@@ -1,12 +1,10 @@
 -- The sample of a mapped value under its prediction, and what is learnt from it.
-use mathlib.Core.Path.{◌≡◌}
 use mir.Syntax.{w32, w64}
 use mir.Val.{SFits}
 use mir.Facts.{to_z-of_z}
 use Rattle.integers.specs.Laws.{ok}
 use Rattle.body_value.proofs.Plans.{low_fits, high_fits}
 use Rattle.body_value.proofs.Predicts.{learning, unmapping, restored_so}
-use borrow.Author.Rules.{rules}
 use Rattle.body_value.proofs.predicting.sample_here.Goals as goal
 
 pub unmap_residual-sample-requires : goal.unmap_residual-sample-requires

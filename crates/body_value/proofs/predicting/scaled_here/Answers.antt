@@ -1,5 +1,5 @@
 -- The first value by the band before, a later one by its components.
-use mathlib.Core.Path.{◌≡◌, sym}
+use mathlib.Core.Path.{sym}
 use native.Mathlib.Omega.{arith}
 use mir.Syntax.{w64}
 use mir.Val.{SFits}
@@ -7,7 +7,6 @@ use mir.Facts.{to_z-of_z}
 use Rattle.integers.specs.Laws.{ok}
 use Rattle.body_value.proofs.Plans.{low_fits, middle_fits, high_fits}
 use Rattle.body_value.proofs.Predicts.{few, held_long, us_taken, terms, first_is, later_is}
-use borrow.Author.Rules.{rules}
 use Rattle.body_value.proofs.predicting.scaled_here.Goals as goal
 
 pub returns-then-place-eq0 : goal.returns-then-place-eq0

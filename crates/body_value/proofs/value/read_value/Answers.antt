@@ -9,7 +9,6 @@ use Rattle.bitstream.specs.Stream.{unpack}
 use Rattle.body_value.specs.Coder.{Found}
 use Rattle.body_value.proofs.Predicts.{index_in, index_small}
 use Rattle.body_value.proofs.Values.{decoding, predicting, lent, index_is, sampling, took, stops_short, stops_bad}
-use borrow.Author.Rules.{rules}
 use Rattle.body_value.proofs.value.read_value.Goals as goal
 
 pub decoded-found-requires : goal.decoded-found-requires

@@ -1,6 +1,5 @@
 -- The halves one after the other, each with its own slots.
 use Rattle.body_value.proofs.Values.{coding, wrote}
-use borrow.Author.Rules.{rules}
 use Rattle.body_value.proofs.value.write_value.Goals as goal
 
 pub coded-requires : goal.coded-requires

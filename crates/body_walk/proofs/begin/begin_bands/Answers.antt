@@ -1,13 +1,10 @@
 -- Band after band, each from its tables.
 use mathlib.Core.Path.{◌≡◌, refl, ◌∙◌}
-use Prim.Native.Nat.{◌+◌, ◌-◌, ◌*◌, ◌≤◌}
+use Prim.Native.Nat.{◌+◌, ◌-◌, ◌*◌}
 use native.Mathlib.Omega.{arith}
-use lib.ListN.{length}
 use borrow.Rule.Slice.PartMut.{same_len_mid}
 use Rattle.body_value.proofs.Plans.{legal}
-use Rattle.body_walk.specs.Begun.{Begun}
 use Rattle.body_walk.proofs.Bodies.{startable, begun_none, begun_more, begun_as}
-use borrow.Author.Rules.{rules}
 use Rattle.body_walk.proofs.begin.begin_bands.Goals as goal
 
 pub loop-z-init : goal.loop-z-init

@@ -1,12 +1,8 @@
 -- Band after band, each from its tables.
-use mathlib.Core.Path.{◌≡◌, refl, ◌∙◌}
-use Prim.Native.Nat.{◌+◌, ◌-◌, ◌*◌, ◌≤◌}
-use native.Mathlib.Omega.{arith}
+use mathlib.Core.Path.{◌≡◌}
+use Prim.Native.Nat.{◌-◌, ◌≤◌}
 use lib.ListN.{length}
-use borrow.Rule.Slice.PartMut.{same_len_mid}
-use Rattle.body_value.proofs.Plans.{legal}
 use Rattle.body_walk.specs.Begun.{Begun}
-use Rattle.body_walk.proofs.Bodies.{startable, begun_none, begun_more, begun_as}
 use Rattle.body_walk.proofs.begin.begin_bands.Given as goal
 
 abbrev pub invariant-loop-z : goal.invariant-loop-z

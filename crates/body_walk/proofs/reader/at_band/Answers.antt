@@ -1,7 +1,6 @@
 -- The band’s slots are lent to the value and come back.
 use Rattle.bitstream.specs.Stream.{unpack}
 use Rattle.body_walk.proofs.Takes.{reading, stepped}
-use borrow.Author.Rules.{rules}
 use Rattle.body_walk.proofs.reader.at_band.Goals as goal
 
 pub read_value-requires : goal.read_value-requires

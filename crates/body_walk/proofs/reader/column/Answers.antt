@@ -1,17 +1,14 @@
 -- Bands one after the other, at one place.
 use mathlib.Core.Path.{◌≡◌, refl, ◌∙◌, ap}
 use mathlib.Core.List.{List}
-use Prim.Native.Nat.{ℕ, ◌+◌, ◌-◌, ◌≤◌}
+use Prim.Native.Nat.{ℕ, ◌+◌, ◌-◌}
 use native.Mathlib.Omega.{arith}
-use lib.ListN.{length}
 use Rattle.bitstream.specs.Stream.{unpack}
 use Rattle.settings.specs.Lists.{join, one}
 use Rattle.body.specs.Order.{Place, column_of}
-use Rattle.body_walk.specs.Reader.{reader_at, Took}
 use Rattle.body_walk.proofs.Loops.{part_as, begin, turn, again, stopping}
 use Rattle.body_walk.proofs.Standings.{inside}
 use Rattle.body_walk.proofs.Takes.{taking, refusing}
-use borrow.Author.Rules.{rules}
 use Rattle.body_walk.proofs.reader.column.Goals as goal
 
 pub loop-z-init : goal.loop-z-init

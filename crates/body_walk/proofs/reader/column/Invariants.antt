@@ -1,16 +1,10 @@
 -- Bands one after the other, at one place.
-use mathlib.Core.Path.{◌≡◌, refl, ◌∙◌, ap}
-use mathlib.Core.List.{List}
-use Prim.Native.Nat.{ℕ, ◌+◌, ◌-◌, ◌≤◌}
-use native.Mathlib.Omega.{arith}
+use mathlib.Core.Path.{◌≡◌}
+use Prim.Native.Nat.{◌-◌, ◌≤◌}
 use lib.ListN.{length}
 use Rattle.bitstream.specs.Stream.{unpack}
 use Rattle.settings.specs.Lists.{join, one}
-use Rattle.body.specs.Order.{Place, column_of}
 use Rattle.body_walk.specs.Reader.{reader_at, Took}
-use Rattle.body_walk.proofs.Loops.{part_as, begin, turn, again, stopping}
-use Rattle.body_walk.proofs.Standings.{inside}
-use Rattle.body_walk.proofs.Takes.{taking, refusing}
 use Rattle.body_walk.proofs.reader.column.Given as goal
 
 abbrev pub invariant-loop-z : goal.invariant-loop-z

@@ -1,16 +1,13 @@
 -- Row after row, in the order of the settings.
 use mathlib.Core.Path.{◌≡◌, refl, sym, ◌∙◌, ap}
-use Prim.Native.Nat.{◌+◌, ◌-◌, ◌≤◌}
+use Prim.Native.Nat.{◌+◌}
 use native.Mathlib.Omega.{arith}
-use lib.ListN.{length}
 use Rattle.bitstream.specs.Stream.{unpack}
 use Rattle.settings.specs.Lists.{join}
 use Rattle.body_walk.specs.Rows.{row_count, places_in}
-use Rattle.body_walk.specs.Reader.{reader_at, Took}
 use Rattle.body_walk.proofs.Loops.{part_as, ready_as, stop_as, begin, turn, again, stopping}
 use Rattle.body_walk.proofs.Orders.{row_in, order_is}
 use Rattle.body_walk.proofs.Takes.{taking, refusing}
-use borrow.Author.Rules.{rules}
 use Rattle.body_walk.proofs.reader.read_rows.Goals as goal
 
 pub loop-i-init : goal.loop-i-init

@@ -1,17 +1,14 @@
 -- Columns one after the other.
 use mathlib.Core.Path.{◌≡◌, refl, sym, ◌∙◌, ap}
 use mathlib.Core.List.{List}
-use Prim.Native.Nat.{ℕ, ◌+◌, ◌-◌, ◌*◌, ◌≤◌}
+use Prim.Native.Nat.{ℕ, ◌+◌, ◌-◌, ◌*◌}
 use native.Mathlib.Omega.{arith}
-use lib.ListN.{length}
 use Rattle.bitstream.specs.Stream.{unpack}
 use Rattle.settings.specs.Lists.{join}
 use Rattle.body.specs.Order.{Place, column_of}
-use Rattle.body_walk.specs.Reader.{reader_at, Took}
 use Rattle.body_walk.proofs.Loops.{part_as, ready_as, stop_as, begin, turn, again, stopping}
 use Rattle.body_walk.proofs.Standings.{strip, row_small, row_places_lem}
 use Rattle.body_walk.proofs.Takes.{taking, refusing}
-use borrow.Author.Rules.{rules}
 use Rattle.body_walk.proofs.reader.row.Goals as goal
 
 pub overflow_mul-first : goal.overflow_mul-first

@@ -1,11 +1,9 @@
 -- Quotient and remainder of the number are the row’s.
-use mathlib.Core.Path.{◌≡◌, refl, sym, ◌∙◌, ap}
-use Prim.Native.Nat.{ℕ, ◌+◌, ◌-◌, ◌*◌, ◌/◌, ◌%◌, ◌^◌, ◌<◌, ◌≤◌, min}
+use mathlib.Core.Path.{sym}
 use native.Mathlib.Omega.{arith}
 use Rattle.body.specs.Order.{sub_frames}
 use Rattle.body_value.proofs.Plans.{legal}
-use Rattle.body_walk.proofs.Orders.{at_band, at_frame, at_frame_last, at_frame_whole, band_below, some_frames, from_below, count_bands}
-use borrow.Author.Rules.{rules}
+use Rattle.body_walk.proofs.Orders.{at_band, at_frame_last, at_frame_whole, band_below, some_frames, from_below, count_bands}
 use Rattle.body_walk.proofs.rows.row_at.Goals as goal
 
 pub nonzero_div-z : goal.nonzero_div-z

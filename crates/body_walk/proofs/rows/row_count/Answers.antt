@@ -1,11 +1,9 @@
 -- Bands times rows, or frames times their sub-frames; both are small.
-use mathlib.Core.Path.{◌≡◌, refl, sym, ◌∙◌, ap}
-use Prim.Native.Nat.{ℕ, ◌+◌, ◌-◌, ◌*◌, ◌/◌, ◌%◌, ◌^◌, ◌<◌, ◌≤◌, min}
+use mathlib.Core.Path.{sym}
 use native.Mathlib.Omega.{arith}
 use Rattle.body.specs.Order.{sub_frames}
 use Rattle.body_value.proofs.Plans.{legal}
 use Rattle.body_walk.proofs.Orders.{count_bands, count_frames, bands_few, frames_few}
-use borrow.Author.Rules.{rules}
 use Rattle.body_walk.proofs.rows.row_count.Goals as goal
 
 pub overflow_mul-result : goal.overflow_mul-result

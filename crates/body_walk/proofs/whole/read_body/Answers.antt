@@ -1,7 +1,6 @@
 -- All bands begun, then all rows: the body, or why it is none.
 use Rattle.bitstream.specs.Stream.{unpack}
 use Rattle.body_walk.proofs.Bodies.{reads, answered}
-use borrow.Author.Rules.{rules}
 use Rattle.body_walk.proofs.whole.read_body.Goals as goal
 
 pub begin_bands-requires : goal.begin_bands-requires

@@ -1,6 +1,5 @@
 -- All bands begun, then all rows: the body.
 use Rattle.body_walk.proofs.Bodies.{writes, written}
-use borrow.Author.Rules.{rules}
 use Rattle.body_walk.proofs.whole.write_body.Goals as goal
 
 pub begin_bands-requires : goal.begin_bands-requires

@@ -1,6 +1,5 @@
 -- The band’s slots are lent to the value and come back.
 use Rattle.body_walk.proofs.Moves.{writing, wrote}
-use borrow.Author.Rules.{rules}
 use Rattle.body_walk.proofs.writer.at_band.Goals as goal
 
 pub write_value-requires : goal.write_value-requires

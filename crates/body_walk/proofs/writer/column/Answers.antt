@@ -1,16 +1,13 @@
 -- Bands one after the other, at one place.
 use mathlib.Core.Path.{◌≡◌, refl, ◌∙◌, ap}
 use mathlib.Core.List.{List}
-use Prim.Native.Nat.{ℕ, ◌+◌, ◌-◌, ◌≤◌}
+use Prim.Native.Nat.{ℕ, ◌+◌, ◌-◌}
 use native.Mathlib.Omega.{arith}
-use lib.ListN.{length}
 use Rattle.settings.specs.Lists.{join, one}
 use Rattle.body.specs.Order.{Place, column_of}
-use Rattle.body_walk.specs.Writer.{writer_at, Moved}
 use Rattle.body_walk.proofs.Loops.{part_as, begin, turn, again}
 use Rattle.body_walk.proofs.Standings.{inside}
 use Rattle.body_walk.proofs.Moves.{moving}
-use borrow.Author.Rules.{rules}
 use Rattle.body_walk.proofs.writer.column.Goals as goal
 
 pub loop-z-init : goal.loop-z-init

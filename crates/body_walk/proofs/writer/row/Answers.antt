@@ -1,16 +1,13 @@
 -- Columns one after the other.
 use mathlib.Core.Path.{◌≡◌, refl, sym, ◌∙◌, ap}
 use mathlib.Core.List.{List}
-use Prim.Native.Nat.{ℕ, ◌+◌, ◌-◌, ◌*◌, ◌≤◌}
+use Prim.Native.Nat.{ℕ, ◌+◌, ◌-◌, ◌*◌}
 use native.Mathlib.Omega.{arith}
-use lib.ListN.{length}
 use Rattle.settings.specs.Lists.{join}
 use Rattle.body.specs.Order.{Place, column_of}
-use Rattle.body_walk.specs.Writer.{writer_at, Moved}
 use Rattle.body_walk.proofs.Loops.{part_as, ready_as, begin, turn, again}
 use Rattle.body_walk.proofs.Standings.{strip, row_small, row_places_lem}
 use Rattle.body_walk.proofs.Moves.{moving}
-use borrow.Author.Rules.{rules}
 use Rattle.body_walk.proofs.writer.row.Goals as goal
 
 pub overflow_mul-first : goal.overflow_mul-first

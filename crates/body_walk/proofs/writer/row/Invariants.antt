@@ -1,15 +1,10 @@
 -- Columns one after the other.
-use mathlib.Core.Path.{◌≡◌, refl, sym, ◌∙◌, ap}
-use mathlib.Core.List.{List}
-use Prim.Native.Nat.{ℕ, ◌+◌, ◌-◌, ◌*◌, ◌≤◌}
-use native.Mathlib.Omega.{arith}
+use mathlib.Core.Path.{◌≡◌}
+use Prim.Native.Nat.{◌+◌, ◌-◌, ◌≤◌}
 use lib.ListN.{length}
 use Rattle.settings.specs.Lists.{join}
-use Rattle.body.specs.Order.{Place, column_of}
+use Rattle.body.specs.Order.{column_of}
 use Rattle.body_walk.specs.Writer.{writer_at, Moved}
-use Rattle.body_walk.proofs.Loops.{part_as, ready_as, begin, turn, again}
-use Rattle.body_walk.proofs.Standings.{strip, row_small, row_places_lem}
-use Rattle.body_walk.proofs.Moves.{moving}
 use Rattle.body_walk.proofs.writer.row.Given as goal
 
 abbrev pub invariant-loop-x : goal.invariant-loop-x

@@ -1,15 +1,12 @@
 -- Row after row, in the order of the settings.
 use mathlib.Core.Path.{◌≡◌, refl, sym, ◌∙◌, ap}
-use Prim.Native.Nat.{◌+◌, ◌-◌, ◌≤◌}
+use Prim.Native.Nat.{◌+◌}
 use native.Mathlib.Omega.{arith}
-use lib.ListN.{length}
 use Rattle.settings.specs.Lists.{join}
 use Rattle.body_walk.specs.Rows.{row_count, places_in}
-use Rattle.body_walk.specs.Writer.{writer_at, Moved}
 use Rattle.body_walk.proofs.Loops.{part_as, ready_as, begin, turn, again}
 use Rattle.body_walk.proofs.Orders.{row_in, order_is}
 use Rattle.body_walk.proofs.Moves.{moving}
-use borrow.Author.Rules.{rules}
 use Rattle.body_walk.proofs.writer.write_rows.Goals as goal
 
 pub loop-i-init : goal.loop-i-init

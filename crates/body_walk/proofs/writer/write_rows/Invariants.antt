@@ -1,14 +1,10 @@
 -- Row after row, in the order of the settings.
-use mathlib.Core.Path.{◌≡◌, refl, sym, ◌∙◌, ap}
-use Prim.Native.Nat.{◌+◌, ◌-◌, ◌≤◌}
-use native.Mathlib.Omega.{arith}
+use mathlib.Core.Path.{◌≡◌}
+use Prim.Native.Nat.{◌-◌, ◌≤◌}
 use lib.ListN.{length}
 use Rattle.settings.specs.Lists.{join}
-use Rattle.body_walk.specs.Rows.{row_count, places_in}
+use Rattle.body_walk.specs.Rows.{places_in}
 use Rattle.body_walk.specs.Writer.{writer_at, Moved}
-use Rattle.body_walk.proofs.Loops.{part_as, ready_as, begin, turn, again}
-use Rattle.body_walk.proofs.Orders.{row_in, order_is}
-use Rattle.body_walk.proofs.Moves.{moving}
 use Rattle.body_walk.proofs.writer.write_rows.Given as goal
 
 abbrev pub invariant-loop-i : goal.invariant-loop-i

@@ -5,14 +5,13 @@ use Prim.Native.Nat.{ℕ}
 use native.Mathlib.Omega.{arith}
 use lib.Dec.{eqb}
 use lib.ListN.{length}
-use borrow.Author.Tests.{not-true, not-false, lt-ltb, le-ltb}
+use borrow.Author.Tests.{lt-ltb, le-ltb}
 use Rattle.refusals.specs.Tests.{first_hit}
 use Rattle.settings.specs.Legal.{settings_legal, limited, sample_count}
 use Rattle.settings.specs.LegalLaws.{legal_settings, count_fits}
 use Rattle.settings.specs.Tables.{tables_legal}
 use Rattle.settings.specs.Checks.{areas_short, check_pack}
 use Rattle.settings.specs.CheckLaws.{roomy}
-use borrow.Author.Rules.{rules}
 use Rattle.std.proofs.lemmas.Bool.{ne_eqb}
 use Rattle.std.proofs.Common.{eq-eqb}
 use Rattle.checks.proofs.check.check_pack.Goals as goal

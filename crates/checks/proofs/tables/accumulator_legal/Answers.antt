@@ -4,7 +4,6 @@ use native.Mathlib.Omega.{arith}
 use mir.Syntax.{w32}
 use mir.Facts.{to_z-of_z, to_z_pos}
 use Rattle.settings.specs.Tables.{accumulator_legal}
-use borrow.Author.Rules.{rules}
 use Rattle.checks.proofs.tables.accumulator_legal.Goals as goal
 
 pub returns : goal.returns

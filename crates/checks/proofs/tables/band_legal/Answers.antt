@@ -2,7 +2,6 @@
 use native.Mathlib.Omega.{arith}
 use Rattle.settings.specs.Tables.{band_legal}
 use Rattle.settings.specs.LegalLaws.{legal_settings}
-use borrow.Author.Rules.{rules}
 use Rattle.checks.proofs.tables.band_legal.Goals as goal
 
 pub custom_legal-requires : goal.custom_legal-requires

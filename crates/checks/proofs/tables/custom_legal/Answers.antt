@@ -5,7 +5,6 @@ use Prim.Native.Nat.{◌≤◌}
 use native.Mathlib.Omega.{arith}
 use borrow.Author.Tests.{not-false}
 use Rattle.settings.specs.TableLaws.{components_fit, weights_asked}
-use borrow.Author.Rules.{rules}
 use Rattle.checks.proofs.tables.custom_legal.Goals as goal
 
 pub weights_legal-requires : goal.weights_legal-requires

@@ -6,7 +6,7 @@ use lib.ListN.{get_or}
 use mir.Syntax.{w32}
 use mir.Val.{SFits}
 use mir.Facts.{to_z-of_z}
-use borrow.Author.Rules.{sfits_of, rules}
+use borrow.Author.Rules.{sfits_of}
 use Rattle.settings.specs.Tables.{table_stride, parameter_slot, entry, accumulator_legal}
 use Rattle.settings.specs.Truths.{asked}
 use Rattle.checks.proofs.tables.tabled_legal.Goals as goal

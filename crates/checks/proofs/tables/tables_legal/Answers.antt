@@ -1,12 +1,8 @@
 -- Every band before the one that the loop has reached is legal, so one that is not decides, and so does the end.
 use mathlib.Core.Path.{◌≡◌, sym, ◌∙◌}
-use mathlib.Core.Bool.{true}
-use Prim.Native.Nat.{◌-◌, ◌≤◌}
 use native.Mathlib.Omega.{arith}
-use borrow.Author.Tests.{not-true, not-false}
-use Rattle.settings.specs.Tables.{every, band_legal, tables_legal}
+use Rattle.settings.specs.Tables.{band_legal, tables_legal}
 use Rattle.settings.specs.TableLaws.{every_of, every_more, every_not, every_same}
-use borrow.Author.Rules.{rules}
 use Rattle.checks.proofs.tables.tables_legal.Goals as goal
 
 pub loop-z-init : goal.loop-z-init

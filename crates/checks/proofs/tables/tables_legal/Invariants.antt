@@ -1,11 +1,8 @@
 -- Every band before the one that the loop has reached is legal, so one that is not decides, and so does the end.
-use mathlib.Core.Path.{◌≡◌, sym, ◌∙◌}
+use mathlib.Core.Path.{◌≡◌}
 use mathlib.Core.Bool.{true}
 use Prim.Native.Nat.{◌-◌, ◌≤◌}
-use native.Mathlib.Omega.{arith}
-use borrow.Author.Tests.{not-true, not-false}
-use Rattle.settings.specs.Tables.{every, band_legal, tables_legal}
-use Rattle.settings.specs.TableLaws.{every_of, every_more, every_not, every_same}
+use Rattle.settings.specs.Tables.{every, band_legal}
 use Rattle.checks.proofs.tables.tables_legal.Given as goal
 
 abbrev pub invariant-loop-z : goal.invariant-loop-z

@@ -5,7 +5,6 @@ use mir.Syntax.{w32}
 use mir.Facts.{to_z-of_z, to_z_pos}
 use Rattle.settings.specs.Tables.{weight_legal}
 use Rattle.settings.specs.Words.{negated, power_of}
-use borrow.Author.Rules.{rules}
 use Rattle.checks.proofs.tables.weight_legal.Goals as goal
 
 pub overflow_cast-half : goal.overflow_cast-half

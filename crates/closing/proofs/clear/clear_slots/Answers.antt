@@ -1,12 +1,11 @@
 -- Turn by turn the front is zero and the rest is as it was.
 use Rattle.closing.proofs.Clears.{fill_more}
 use mathlib.Core.Path.{◌≡◌, refl, ◌∙◌}
-use mathlib.Core.List.{List, ◌++◌, append-nil}
-use Prim.Native.Nat.{◌+◌, ◌*◌, ◌-◌, ◌<◌, ◌≤◌}
+use mathlib.Core.List.{append-nil}
+use Prim.Native.Nat.{◌≤◌}
 use native.Mathlib.Omega.{arith}
 use lib.IntN.{pos}
-use lib.ListN.{length, take, drop, replicate, length-set, drop_of_length-le}
-use borrow.Author.Rules.{rules}
+use lib.ListN.{length, length-set, drop_of_length-le}
 use Rattle.closing.proofs.clear.clear_slots.Goals as goal
 
 pub loop-slot-init : goal.loop-slot-init

@@ -1,11 +1,9 @@
 -- Turn by turn the front is zero and the rest is as it was.
-use Rattle.closing.proofs.Clears.{fill_more}
-use mathlib.Core.Path.{◌≡◌, refl, ◌∙◌}
-use mathlib.Core.List.{List, ◌++◌, append-nil}
-use Prim.Native.Nat.{◌+◌, ◌*◌, ◌-◌, ◌<◌, ◌≤◌}
-use native.Mathlib.Omega.{arith}
+use mathlib.Core.Path.{◌≡◌}
+use mathlib.Core.List.{◌++◌}
+use Prim.Native.Nat.{◌-◌, ◌≤◌}
 use lib.IntN.{pos}
-use lib.ListN.{length, take, drop, replicate, length-set, drop_of_length-le}
+use lib.ListN.{length, drop, replicate}
 use Rattle.closing.proofs.clear.clear_slots.Given as goal
 
 abbrev pub invariant-loop-slot : goal.invariant-loop-slot

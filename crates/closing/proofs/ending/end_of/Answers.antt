@@ -1,15 +1,13 @@
 -- The file's end is compared in bytes, and its fill looked at in two halves of at most 32 bits.
 use native.Mathlib.Nat.{mod-lt, le_of_lt}
 use native.Mathlib.Omega.{arith}
-use mathlib.Core.Path.{◌≡◌, refl, sym, ◌∙◌}
-use mathlib.Core.Bool.{Bool, true, false}
-use mathlib.Core.List.{List}
-use Prim.Native.Nat.{ℕ, ◌+◌, ◌*◌, ◌/◌, ◌<◌, ◌≤◌}
-use lib.ListN.{length, length-drop}
-use Rattle.bitstream.specs.Stream.{filling, unpack}
+use mathlib.Core.Path.{refl, sym, ◌∙◌}
+use mathlib.Core.Bool.{true, false}
+use Prim.Native.Nat.{◌*◌}
+use lib.ListN.{length}
+use Rattle.bitstream.specs.Stream.{unpack}
 use Rattle.bitstream.specs.Laws.{filling_lt, length_unpack}
 use Rattle.closing.proofs.Endings.{whole, short_end, long_end, ends}
-use borrow.Author.Rules.{rules}
 use Rattle.closing.proofs.ending.end_of.Goals as goal
 
 pub overflow_sub-fill : goal.overflow_sub-fill

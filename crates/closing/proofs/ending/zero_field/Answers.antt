@@ -1,6 +1,6 @@
 -- The window's highest bits are the next bits, and they are zeros exactly when their number is 0.
 use native.Mathlib.Omega.{arith}
-use lib.ListN.{length, drop, length-drop}
+use lib.ListN.{drop, length-drop}
 use Rattle.bitstream.specs.Stream.{unpack}
 use Rattle.header.specs.Fields.{same}
 use Rattle.closing.proofs.Endings.{window_same}

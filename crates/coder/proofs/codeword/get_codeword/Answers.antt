@@ -3,7 +3,6 @@ use native.Mathlib.Nat.{lt_of_lt_of_le}
 use native.Mathlib.Omega.{arith}
 use lib.Pow.{pow_mono}
 use Rattle.coder.proofs.Codewords.{small_sub, small_lt, one_short, one_bad, one_value, full_short, full_lt, full_bad, full_value}
-use borrow.Author.Rules.{rules}
 use Rattle.coder.proofs.codeword.get_codeword.Goals as goal
 
 pub returns-then-s-next : goal.returns-then-s-next

@@ -5,7 +5,6 @@ use native.Mathlib.Nat.{mul-le-mul}
 use native.Mathlib.Omega.{arith}
 use Rattle.coder.specs.Statistics.{initial_accumulator}
 use Rattle.coder.proofs.Firsts.{scale}
-use borrow.Author.Rules.{rules}
 use Rattle.coder.proofs.counts.initial_accumulator.Goals as goal
 
 pub overflow_mul-result : goal.overflow_mul-result

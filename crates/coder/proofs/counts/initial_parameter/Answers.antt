@@ -1,7 +1,6 @@
 -- k' is read off the table where the settings say so.
 use mathlib.Core.Path.{◌∙◌}
 use Rattle.coder.proofs.Firsts.{slot_in_lem, slot_natural, from_table, from_all}
-use borrow.Author.Rules.{rules}
 use Rattle.coder.proofs.counts.initial_parameter.Goals as goal
 
 pub natural-requires : goal.natural-requires

@@ -4,7 +4,6 @@ use Prim.Native.Nat.{◌^◌}
 use native.Mathlib.Omega.{arith}
 use Rattle.coder.specs.Statistics.{initial_accumulator, initial_statistics}
 use Rattle.coder.proofs.Firsts.{initial_small, count_small, parameter_small}
-use borrow.Author.Rules.{rules}
 use Rattle.coder.proofs.counts.initial_statistics.Goals as goal
 
 pub power_of-count-requires : goal.power_of-count-requires

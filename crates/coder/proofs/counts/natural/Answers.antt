@@ -7,7 +7,6 @@ use lib.Signed.{non_neg}
 use mir.Syntax.{w32}
 use mir.Facts.{to_z-of_z, Fits-nat_abs}
 use Rattle.integers.specs.Laws.{ok}
-use borrow.Author.Rules.{rules}
 use Rattle.coder.proofs.counts.natural.Goals as goal
 
 pub overflow_cast-result : goal.overflow_cast-result

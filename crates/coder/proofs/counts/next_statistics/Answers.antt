@@ -4,7 +4,6 @@ use native.Mathlib.Omega.{arith}
 use lib.Pow.{pow_pos}
 use borrow.Author.Tests.{lt-ltb, le-ltb}
 use Rattle.coder.specs.Statistics.{next_statistics}
-use borrow.Author.Rules.{rules}
 use Rattle.coder.proofs.counts.next_statistics.Goals as goal
 
 pub overflow_sub-power_of : goal.overflow_sub-power_of

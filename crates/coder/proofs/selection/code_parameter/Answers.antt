@@ -1,14 +1,11 @@
 -- The candidate is the definition's k or one more, so that the loop, which falls with their difference, takes at most one step.
 use mathlib.Core.Path.{◌≡◌, ◌∙◌}
-use mathlib.Core.Logic.{⊎_elim}
-use Prim.Native.Nat.{◌+◌, ◌-◌, ◌<◌, ◌≤◌}
+use Prim.Native.Nat.{◌-◌, ◌<◌}
 use native.Mathlib.Omega.{arith}
-use lib.Count.{count_leading_zeros}
 use Rattle.coder.specs.Candidate.{candidate, candidate_fits, candidate_most, candidate_least}
 use Rattle.coder.specs.Statistics.{largest}
 use Rattle.coder.specs.StatisticsLaws.{parameter_most}
 use Rattle.coder.proofs.Parameters.{bound, parameter_none, parameter_largest, parameter_of_none, fewer_zeros, shift_lt, found, missed}
-use borrow.Author.Rules.{rules}
 use Rattle.coder.proofs.selection.code_parameter.Goals as goal
 use Rattle.coder.proofs.selection.code_parameter.Goals.{then-most-k, else-most-k}
 

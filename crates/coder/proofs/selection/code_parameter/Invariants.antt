@@ -1,13 +1,7 @@
 -- The candidate is the definition's k or one more, so that the loop, which falls with their difference, takes at most one step.
-use mathlib.Core.Path.{◌≡◌, ◌∙◌}
-use mathlib.Core.Logic.{⊎_elim}
-use Prim.Native.Nat.{◌+◌, ◌-◌, ◌<◌, ◌≤◌}
-use native.Mathlib.Omega.{arith}
+use Prim.Native.Nat.{◌+◌, ◌-◌, ◌≤◌}
 use lib.Count.{count_leading_zeros}
-use Rattle.coder.specs.Candidate.{candidate, candidate_fits, candidate_most, candidate_least}
 use Rattle.coder.specs.Statistics.{largest}
-use Rattle.coder.specs.StatisticsLaws.{parameter_most}
-use Rattle.coder.proofs.Parameters.{bound, parameter_none, parameter_largest, parameter_of_none, fewer_zeros, shift_lt, found, missed}
 use Rattle.coder.proofs.selection.code_parameter.Given as goal
 
 abbrev pub invariant-loop-k : goal.invariant-loop-k

@@ -1,7 +1,6 @@
 -- The k searched is the one that the writer chose.
 use native.Mathlib.Omega.{arith}
 use Rattle.coder.specs.StatisticsLaws.{parameter_most}
-use borrow.Author.Rules.{rules}
 use Rattle.coder.proofs.value.get_value.Goals as goal
 
 pub get_codeword-requires : goal.get_codeword-requires

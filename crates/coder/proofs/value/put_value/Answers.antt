@@ -5,7 +5,6 @@ use native.Mathlib.Omega.{arith}
 use Rattle.bitstream.proofs.Writes.{put_as}
 use Rattle.coder.specs.Codeword.{codeword}
 use Rattle.coder.specs.StatisticsLaws.{parameter_most}
-use borrow.Author.Rules.{rules}
 use Rattle.coder.proofs.value.put_value.Goals as goal
 
 pub put_codeword-requires : goal.put_codeword-requires

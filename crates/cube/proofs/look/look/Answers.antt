@@ -4,7 +4,6 @@ use Rattle.bitstream.specs.Stream.{unpack}
 use Rattle.header_reader.specs.declared.read.HeaderRead.{HeaderRead}
 use Rattle.header_reader.specs.Answers.{HeaderMeans}
 use Rattle.cube.specs.LookLaws.{look_settings, look_refused}
-use borrow.Author.Rules.{rules}
 use Rattle.cube.proofs.look.look.Goals as goal
 
 pub returns-in-Header : goal.returns-in-Header

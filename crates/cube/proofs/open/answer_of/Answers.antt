@@ -1,16 +1,13 @@
 -- By what the body came to and, where it was read, by the end of the file.
-use mathlib.Core.Path.{◌≡◌, sym, ◌∙◌, ap, subst}
+use mathlib.Core.Path.{sym, ◌∙◌, ap, subst}
 use native.Mathlib.Omega.{arith}
-use lib.ListN.{length, drop}
 use Rattle.bitstream.specs.Stream.{unpack}
 use Rattle.refusals.specs.declared.Refusal.TheVariants.{BodyEnds, AfterEnd}
 use Rattle.settings.specs.LegalLaws.{legal_settings, count_fits}
-use Rattle.cube.specs.declared.Opened.{Opened}
 use Prim.Native.Nat.{ℕ}
 use Rattle.cube.specs.declared.Opened.TheVariants as opening
 use Rattle.cube.specs.Opening.{end_answer, answer_of, Reached}
 use Rattle.cube.proofs.Openings.{answered}
-use borrow.Author.Rules.{rules}
 use Rattle.cube.proofs.open.answer_of.Goals as goal
 
 pub sample_count-count-requires : goal.sample_count-count-requires

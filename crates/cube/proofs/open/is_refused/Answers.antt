@@ -1,7 +1,6 @@
 -- By the two cases of an answer.
 use mathlib.Core.Path.{sym, ap}
 use Rattle.cube.specs.Opening.{is_refused}
-use borrow.Author.Rules.{rules}
 use Rattle.cube.proofs.open.is_refused.Goals as goal
 
 pub returns-in-Settings : goal.returns-in-Settings

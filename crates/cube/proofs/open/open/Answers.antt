@@ -1,9 +1,8 @@
 -- The header decides first.
-use mathlib.Core.Path.{◌≡◌, subst}
+use mathlib.Core.Path.{subst}
 use Rattle.bitstream.specs.Stream.{unpack}
 use Rattle.header_reader.specs.Answers.{HeaderMeans}
 use Rattle.cube.proofs.Openings.{opens_no_header}
-use borrow.Author.Rules.{rules}
 use Rattle.cube.proofs.open.open.Goals as goal
 
 pub open_lent-requires : goal.open_lent-requires

@@ -1,10 +1,9 @@
 -- The two tests of the areas, in their order, before anything is touched.
-use mathlib.Core.Path.{◌≡◌, sym, ◌∙◌}
+use mathlib.Core.Path.{sym, ◌∙◌}
 use native.Mathlib.Omega.{arith}
 use lib.ListN.{length}
 use Rattle.settings.specs.CheckLaws.{roomy}
 use Rattle.cube.proofs.Openings.{begun_count, begun_short_image, begun_short_area}
-use borrow.Author.Rules.{rules}
 use Rattle.cube.proofs.open.open_lent.Goals as goal
 
 pub sample_count-requires : goal.sample_count-requires

@@ -5,7 +5,6 @@ use Rattle.settings.specs.CheckLaws.{fine}
 use Rattle.cube.specs.PackLaws.{length_fine}
 use Rattle.cube.specs.declared.Packed.TheVariants as packing
 use Rattle.cube.proofs.Packings.{lengths_as, length_refused}
-use borrow.Author.Rules.{rules}
 use Rattle.cube.proofs.pack.length.Goals as goal
 
 pub write_file-n-requires : goal.write_file-n-requires

@@ -1,9 +1,8 @@
 -- A test that fails is the answer, and nothing is touched; what passes is packed.
-use mathlib.Core.Path.{◌≡◌, sym, ◌∙◌, ap}
+use mathlib.Core.Path.{sym, ◌∙◌}
 use lib.ListN.{length}
 use Rattle.settings.specs.CheckLaws.{fine}
 use Rattle.cube.proofs.Packings.{packs_refused}
-use borrow.Author.Rules.{rules}
 use Rattle.cube.proofs.pack.pack.Goals as goal
 
 pub pack_fine-requires : goal.pack_fine-requires

@@ -1,6 +1,6 @@
 -- The file's length decides: what fits is stored, and what does not is cleared.
-use mathlib.Core.Path.{◌≡◌, sym, ◌∙◌, ap}
-use Prim.Native.Nat.{ℕ, ◌≤◌}
+use mathlib.Core.Path.{◌≡◌, ◌∙◌, ap}
+use Prim.Native.Nat.{ℕ}
 use native.Mathlib.Omega.{arith}
 use lib.ListN.{length, replicate}
 use Rattle.cube.proofs.Packings.{packs_stored, packs_cleared}

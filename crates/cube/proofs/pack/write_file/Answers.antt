@@ -1,13 +1,9 @@
 -- Header, body and fill go one behind the other, each where the one before it ends, and none comes near the end of a word.
 use mathlib.Core.Path.{refl}
-use mathlib.Core.List.{List, []}
-use Prim.Native.Nat.{ℕ, ◌+◌, ◌*◌, ◌^◌, ◌≤◌}
 use native.Mathlib.Omega.{arith}
-use lib.ListN.{length}
 use Rattle.bitstream.proofs.Writes.{filled_count}
 use Rattle.settings.specs.LegalLaws.{legal_settings}
 use Rattle.cube.proofs.Files.{file_written, fine_starts, body_of, headed_small, bodied_small, filled_small}
-use borrow.Author.Rules.{rules}
 use Rattle.cube.proofs.pack.write_file.Goals as goal
 
 pub write_body-bodied-requires : goal.write_body-bodied-requires

@@ -1,9 +1,8 @@
 -- Each arm is the definition's clause.
-use mathlib.Core.Path.{◌≡◌, ◌∙◌, sym, ap}
+use mathlib.Core.Path.{◌∙◌, sym, ap}
 use native.Mathlib.Omega.{arith}
 use Rattle.cube.specs.Answers.{opened_number, looked_value}
 use Rattle.cube_c.specs.Answer.{word_of, looked_word}
-use borrow.Author.Rules.{rules}
 use Rattle.cube_c.proofs.answer.looked_word.Goals as goal
 
 pub refusal_word-requires : goal.refusal_word-requires

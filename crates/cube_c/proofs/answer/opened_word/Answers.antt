@@ -1,9 +1,8 @@
 -- Each arm is the definition's clause.
-use mathlib.Core.Path.{◌≡◌, ◌∙◌, sym, ap}
+use mathlib.Core.Path.{◌∙◌, sym, ap}
 use native.Mathlib.Omega.{arith}
 use Rattle.cube.specs.Answers.{opened_number, opened_value}
 use Rattle.cube_c.specs.Answer.{word_of, opened_word}
-use borrow.Author.Rules.{rules}
 use Rattle.cube_c.proofs.answer.opened_word.Goals as goal
 
 pub sample_count-requires : goal.sample_count-requires

@@ -1,9 +1,8 @@
 -- Each arm is the definition's clause.
-use mathlib.Core.Path.{◌≡◌, ◌∙◌, sym, ap}
+use mathlib.Core.Path.{◌∙◌, sym, ap}
 use native.Mathlib.Omega.{arith}
 use Rattle.cube.specs.Answers.{packed_number, packed_value}
 use Rattle.cube_c.specs.Answer.{packed_word}
-use borrow.Author.Rules.{rules}
 use Rattle.cube_c.proofs.answer.packed_word.Goals as goal
 
 pub word-requires : goal.word-requires

@@ -1,5 +1,5 @@
 -- Each arm is the definition's clause.
-use mathlib.Core.Path.{◌≡◌, ◌∙◌, sym, ap, subst}
+use mathlib.Core.Path.{◌∙◌, sym, ap, subst}
 use Rattle.cube.specs.declared.Opened.{Opened}
 use Rattle.cube_c.specs.Boundary.{Storable, slots_after}
 use borrow.Author.Rules.{rules}

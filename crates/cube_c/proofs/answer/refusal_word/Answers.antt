@@ -1,7 +1,6 @@
 -- A refusal has a number of at most 18, and the word is made of it and the value.
 use native.Mathlib.Omega.{arith}
 use Rattle.refusals.specs.RefusalLaws.{refusals_closed}
-use borrow.Author.Rules.{rules}
 use Rattle.cube_c.proofs.answer.refusal_word.Goals as goal
 
 pub word-requires : goal.word-requires

@@ -1,8 +1,6 @@
 -- The sum of number · 2^56 and the value is the definition.
 use mathlib.Core.Path.{refl}
-use native.Mathlib.Omega.{arith}
 use Rattle.cube_c.specs.Answer.{word_of}
-use borrow.Author.Rules.{rules}
 use Rattle.cube_c.proofs.answer.word.Goals as goal
 
 pub returns : goal.returns

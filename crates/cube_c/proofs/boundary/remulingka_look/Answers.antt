@@ -2,7 +2,6 @@
 use native.Mathlib.Omega.{arith}
 use Rattle.refusals.specs.Refusals.{value}
 use Rattle.cube_c.proofs.Boundaries.{looks_short, looks_long, looks_fit}
-use borrow.Author.Rules.{rules}
 use Rattle.cube_c.proofs.boundary.remulingka_look.Goals as goal
 
 pub refusal_word-requires : goal.refusal_word-requires

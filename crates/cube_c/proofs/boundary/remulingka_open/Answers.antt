@@ -2,7 +2,6 @@
 use native.Mathlib.Omega.{arith}
 use Rattle.refusals.specs.Refusals.{value}
 use Rattle.cube_c.proofs.Boundaries.{opens_short, opens_long, opens_fit}
-use borrow.Author.Rules.{rules}
 use Rattle.cube_c.proofs.boundary.remulingka_open.Goals as goal
 
 pub refusal_word-requires : goal.refusal_word-requires

@@ -4,7 +4,6 @@ use Rattle.refusals.specs.declared.Checked.TheVariants.{Passed}
 use Rattle.settings_slots.specs.Slots.{slots_checked}
 use Rattle.cube_c.specs.BoundaryLaws.{slots_pass}
 use Rattle.cube_c.proofs.Boundaries.{packs_refused, packs_passed, refused_small, packs_small}
-use borrow.Author.Rules.{rules}
 use Rattle.cube_c.proofs.boundary.remulingka_pack.Goals as goal
 
 pub settings_from-requires : goal.settings_from-requires

@@ -1,12 +1,11 @@
 -- A field that is in the file is found.
-use mathlib.Core.Path.{◌≡◌, sym, ◌∙◌}
+use mathlib.Core.Path.{◌≡◌, ◌∙◌}
 use Prim.Native.Nat.{◌+◌}
 use lib.ListN.{take, drop}
 use Rattle.bitstream.specs.Stream.{number, unpack}
 use Rattle.bitstream.specs.Laws.{absurd_path}
-use Rattle.bitstream.specs.declared.read.Got.TheVariants.{Value, Short, Bad}
+use Rattle.bitstream.specs.declared.read.Got.TheVariants.{Value}
 use Rattle.header.proofs.Numbers.{found_there}
-use borrow.Author.Rules.{rules}
 use Rattle.header.proofs.fields.number_at.Goals as goal
 
 pub returns-in-Value : goal.returns-in-Value

@@ -1,11 +1,10 @@
 -- Each turn reads the field behind those read before.
-use Prim.Native.Nat.{◌+◌, ◌-◌, ◌≤◌}
+use Prim.Native.Nat.{◌+◌, ◌≤◌}
 use native.Mathlib.Omega.{arith}
-use lib.ListN.{length, get_or}
+use lib.ListN.{get_or}
 use Rattle.bitstream.specs.Stream.{unpack}
 use Rattle.header.specs.FieldLaws.{total}
-use Rattle.header.proofs.Numbers.{Reads, Width, fitting_at, reads_begin, reads_more, reads_all, reads_room}
-use borrow.Author.Rules.{rules}
+use Rattle.header.proofs.Numbers.{Width, fitting_at, reads_begin, reads_more, reads_all, reads_room}
 use Rattle.header.proofs.fields.numbers.Goals as goal
 
 pub loop-i-init : goal.loop-i-init

@@ -1,10 +1,8 @@
 -- Each turn reads the field behind those read before.
-use Prim.Native.Nat.{◌+◌, ◌-◌, ◌≤◌}
-use native.Mathlib.Omega.{arith}
-use lib.ListN.{length, get_or}
+use Prim.Native.Nat.{◌-◌}
+use lib.ListN.{length}
 use Rattle.bitstream.specs.Stream.{unpack}
-use Rattle.header.specs.FieldLaws.{total}
-use Rattle.header.proofs.Numbers.{Reads, Width, fitting_at, reads_begin, reads_more, reads_all, reads_room}
+use Rattle.header.proofs.Numbers.{Reads}
 use Rattle.header.proofs.fields.numbers.Given as goal
 
 abbrev pub invariant-loop-i : goal.invariant-loop-i

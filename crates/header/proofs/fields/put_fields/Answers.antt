@@ -1,14 +1,11 @@
 -- Each turn puts the field behind those put before.
-use mathlib.Core.Path.{◌≡◌, refl, sym, ap, ◌∙◌}
-use Prim.Native.Nat.{◌-◌}
 use native.Mathlib.Omega.{arith}
-use lib.ListN.{length, get_or}
+use lib.ListN.{get_or}
 use lib.Pow.{pow_pos}
 use Rattle.bitstream.proofs.Writes.{put_as}
 use Rattle.bitstream.specs.Laws.{length_bits}
-use Rattle.header.proofs.Joins.{Joins, joins_begin, joins_more, joins_all, field_at, fields_join, reduced, reduced_lt}
+use Rattle.header.proofs.Joins.{joins_begin, joins_more, joins_all, fields_join, reduced, reduced_lt}
 use Rattle.header.proofs.Numbers.{Width, fitting_at}
-use borrow.Author.Rules.{rules}
 use Rattle.header.proofs.fields.put_fields.Goals as goal
 
 pub loop-i-init : goal.loop-i-init

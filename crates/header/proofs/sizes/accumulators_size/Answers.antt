@@ -8,7 +8,6 @@ use Rattle.header.specs.SizeLaws.{cond_true}
 use Rattle.header.specs.Sizes.{padded, accumulators_size}
 use Rattle.settings.specs.declared.Coder.{Coder}
 use Rattle.settings.specs.declared.Image.{Image}
-use borrow.Author.Rules.{rules}
 use Rattle.header.proofs.sizes.accumulators_size.Goals as goal
 
 tabled-size : (I : Image) (C : Coder) → C.tabled ≡ true → padded (4 * I.nz) ≡ accumulators_size I C

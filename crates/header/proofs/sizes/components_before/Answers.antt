@@ -1,11 +1,8 @@
 -- The sum is that of the bands passed, at most 18 a band.
 use mathlib.Core.Path.{◌≡◌, sym, ◌∙◌}
-use Prim.Native.Nat.{◌*◌, ◌-◌, ◌≤◌}
 use native.Mathlib.Omega.{arith}
 use Rattle.header.specs.SizeLaws.{no_components, more_components}
-use Rattle.header.specs.Tables.{components_before}
 use Rattle.settings.specs.TableLaws.{components_fit}
-use borrow.Author.Rules.{rules}
 use Rattle.header.proofs.sizes.components_before.Goals as goal
 
 pub loop-z-init : goal.loop-z-init

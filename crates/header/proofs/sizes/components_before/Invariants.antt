@@ -1,10 +1,7 @@
 -- The sum is that of the bands passed, at most 18 a band.
-use mathlib.Core.Path.{◌≡◌, sym, ◌∙◌}
+use mathlib.Core.Path.{◌≡◌}
 use Prim.Native.Nat.{◌*◌, ◌-◌, ◌≤◌}
-use native.Mathlib.Omega.{arith}
-use Rattle.header.specs.SizeLaws.{no_components, more_components}
 use Rattle.header.specs.Tables.{components_before}
-use Rattle.settings.specs.TableLaws.{components_fit}
 use Rattle.header.proofs.sizes.components_before.Given as goal
 
 abbrev pub invariant-loop-z : goal.invariant-loop-z

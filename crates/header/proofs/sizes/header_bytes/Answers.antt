@@ -5,7 +5,6 @@ use Rattle.header.specs.SizeLaws.{bytes_of_header}
 use Rattle.settings.specs.Legal.{settings_legal, image_legal, predictor_legal, coder_legal}
 use Rattle.settings.specs.LegalLaws.{limited_facts}
 use Rattle.settings.specs.declared.Settings.{Settings}
-use borrow.Author.Rules.{rules}
 use Rattle.header.proofs.sizes.header_bytes.Goals as goal
 
 predictor_legal_lem : (S : Settings) → settings_legal S ≡ true → predictor_legal S.image S.predictor ≡ true

@@ -4,7 +4,6 @@ use Prim.Native.Nat.{ℕ, ◌*◌}
 use native.Mathlib.Omega.{arith}
 use Rattle.header.specs.SizeLaws.{bits_most, precision_most}
 use Rattle.settings.specs.LegalLaws.{legal_predictor}
-use borrow.Author.Rules.{rules}
 use Rattle.header.proofs.sizes.weight_bits.Goals as goal
 
 pub components_before-requires : goal.components_before-requires

@@ -7,7 +7,6 @@ use Rattle.header.specs.Sizes.{padded, weight_bits, weights_size}
 use Rattle.settings.specs.declared.Image.{Image}
 use Rattle.settings.specs.declared.Predictor.{Predictor}
 use Rattle.header.specs.SizeLaws.{cond_true}
-use borrow.Author.Rules.{rules}
 use Rattle.header.proofs.sizes.weights_size.Goals as goal
 
 custom-size : (I : Image) (P : Predictor) → P.custom ≡ true → padded (weight_bits I P) ≡ weights_size I P

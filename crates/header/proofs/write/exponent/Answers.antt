@@ -1,11 +1,9 @@
 -- What the loop has passed is no exponent of x.
-use mathlib.Core.Bool.{cond}
-use mathlib.Core.Path.{◌≡◌, refl, sym, ap, ◌∙◌}
+use mathlib.Core.Path.{◌≡◌, refl, sym, ◌∙◌}
 use Prim.Native.Nat.{ℕ, zero, suc, ◌-◌, ◌^◌, ◌≤◌, ◌<◌}
 use native.Mathlib.Omega.{arith}
 use borrow.Author.Tests.{eq-eqb, ne_eqb}
 use Rattle.header.specs.Parts.{exponent_of}
-use borrow.Author.Rules.{rules}
 use Rattle.header.proofs.write.exponent.Goals as goal
 
 -- one step of the definition

@@ -1,9 +1,6 @@
 -- What the loop has passed is no exponent of x.
-use mathlib.Core.Bool.{cond}
-use mathlib.Core.Path.{◌≡◌, refl, sym, ap, ◌∙◌}
-use Prim.Native.Nat.{ℕ, zero, suc, ◌-◌, ◌^◌, ◌≤◌, ◌<◌}
-use native.Mathlib.Omega.{arith}
-use borrow.Author.Tests.{eq-eqb, ne_eqb}
+use mathlib.Core.Path.{◌≡◌}
+use Prim.Native.Nat.{◌≤◌}
 use Rattle.header.specs.Parts.{exponent_of}
 use Rattle.header.proofs.write.exponent.Given as goal
 

@@ -1,9 +1,8 @@
 -- A legal k' is not negative.
-use mathlib.Core.Path.{◌≡◌, refl, sym, ap, ◌∙◌}
+use mathlib.Core.Path.{refl}
 use native.Mathlib.Omega.{arith}
-use mir.Facts.{to_z-of_z, to_z_pos}
+use mir.Facts.{to_z-of_z}
 use Rattle.header.proofs.Signs.{accumulator_natural}
-use borrow.Author.Rules.{rules}
 use Rattle.header.proofs.write.natural.Goals as goal
 
 pub overflow_cast-result : goal.overflow_cast-result

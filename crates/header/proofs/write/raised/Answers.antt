@@ -1,9 +1,7 @@
 -- From −6 to 9 a number and 6 are not negative.
-use mathlib.Core.Path.{◌≡◌, refl, sym, ap, ◌∙◌}
 use native.Mathlib.Omega.{arith}
-use mir.Facts.{to_z-of_z, to_z_pos}
+use mir.Facts.{to_z-of_z}
 use Rattle.header.proofs.Signs.{raised_natural}
-use borrow.Author.Rules.{rules}
 use Rattle.header.proofs.write.raised.Goals as goal
 
 pub overflow_add-result : goal.overflow_add-result

@@ -1,12 +1,11 @@
 -- A weight below 0 and 2^q are its word.
-use mathlib.Core.Path.{◌≡◌, refl, sym, ap, ◌∙◌}
+use mathlib.Core.Path.{◌≡◌}
 use native.Mathlib.Omega.{arith}
-use lib.IntN.{ℤ, pos, ◌+ℤ◌}
+use lib.IntN.{pos, ◌+ℤ◌}
 use mir.Facts.{to_z-of_z, to_z_pos}
 use mir.Syntax.{w32}
-use mir.Val.{SFits, to_z, of_z}
+use mir.Val.{to_z, of_z}
 use Rattle.header.proofs.Signs.{Word, word_up, word_down, small_power}
-use borrow.Author.Rules.{rules}
 use Rattle.header.proofs.write.twos.Goals as goal
 
 pub overflow_cast-result : goal.overflow_cast-result

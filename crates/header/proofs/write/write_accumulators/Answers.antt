@@ -1,12 +1,10 @@
 -- The entries, and the zeros that their number asks for.
-use mathlib.Core.Path.{◌≡◌, refl, sym, ap, ◌∙◌}
 use native.Mathlib.Omega.{arith}
 use lib.Pow.{pow_pos}
 use borrow.Author.Tests.{not-true, not-false}
 use Rattle.bitstream.proofs.Writes.{put_as, put_none}
 use Rattle.header.proofs.WriteLaws.{facts, put_filled, accumulator_part_is, no_accumulator_part}
 use Rattle.header.specs.TableLaws.{length_accumulators}
-use borrow.Author.Rules.{rules}
 use Rattle.header.proofs.write.write_accumulators.Goals as goal
 
 pub returns-then-not-s : goal.returns-then-not-s

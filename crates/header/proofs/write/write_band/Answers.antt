@@ -1,21 +1,21 @@
 -- Each turn puts the weight of the next component.
-use mathlib.Core.Path.{◌≡◌, refl, sym, ap, ◌∙◌}
-use Prim.Native.Nat.{ℕ, ◌+◌, ◌-◌, ◌*◌, ◌≤◌}
+use mathlib.Core.Path.{ap, ◌∙◌}
+use Prim.Native.Nat.{◌+◌, ◌*◌, ◌≤◌}
 use native.Mathlib.Omega.{arith}
-use lib.IntN.{pos, nat_abs}
-use lib.ListN.{get_or, length}
+use lib.IntN.{pos}
+use lib.ListN.{get_or}
 use mir.Facts.{to_z-of_z}
 use mir.Syntax.{w32}
 use mir.Val.{SFits}
-use borrow.Author.Rules.{rules, sfits_of}
+use borrow.Author.Rules.{sfits_of}
 use Rattle.bitstream.proofs.Writes.{put_as}
 use Rattle.bitstream.specs.Laws.{length_bits}
 use Rattle.bitstream.specs.Stream.{bits}
-use Rattle.header.proofs.Joins.{Joins, joins_begin, joins_more, joins_all}
+use Rattle.header.proofs.Joins.{joins_begin, joins_more, joins_all}
 use Rattle.header.proofs.WriteLaws.{facts, weight_at, weight_bits_at, narrow}
 use Rattle.header.specs.Tables.{twos}
 use Rattle.settings.specs.Lists.{join}
-use Rattle.settings.specs.Tables.{table_stride, parameter_slot, entry, component_count}
+use Rattle.settings.specs.Tables.{table_stride, entry}
 use Rattle.header.proofs.write.write_band.Goals as goal
 
 pub overflow_mul-base : goal.overflow_mul-base

@@ -1,13 +1,8 @@
 -- Each turn puts the weights of the next band.
-use mathlib.Core.Path.{◌≡◌, refl, sym, ap, ◌∙◌}
-use Prim.Native.Nat.{ℕ, ◌*◌, ◌-◌}
 use native.Mathlib.Omega.{arith}
-use Rattle.header.proofs.Joins.{Joins, joins_begin, joins_more, joins_all}
-use Rattle.header.proofs.WriteLaws.{facts, weight_bits_at, narrow, band_most}
+use Rattle.header.proofs.Joins.{joins_begin, joins_more, joins_all}
+use Rattle.header.proofs.WriteLaws.{facts, narrow, band_most}
 use Rattle.header.specs.Tables.{weight_table}
-use Rattle.settings.specs.Lists.{join}
-use Rattle.settings.specs.Tables.{component_count}
-use borrow.Author.Rules.{rules}
 use Rattle.header.proofs.write.write_bands.Goals as goal
 
 pub overflow_cast-bands : goal.overflow_cast-bands

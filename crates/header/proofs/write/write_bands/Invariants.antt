@@ -1,10 +1,7 @@
 -- Each turn puts the weights of the next band.
-use mathlib.Core.Path.{◌≡◌, refl, sym, ap, ◌∙◌}
-use Prim.Native.Nat.{ℕ, ◌*◌, ◌-◌}
-use native.Mathlib.Omega.{arith}
-use Rattle.header.proofs.Joins.{Joins, joins_begin, joins_more, joins_all}
-use Rattle.header.proofs.WriteLaws.{facts, weight_bits_at, narrow, band_most}
-use Rattle.header.specs.Tables.{weight_table}
+use Prim.Native.Nat.{◌*◌, ◌-◌}
+use Rattle.header.proofs.Joins.{Joins}
+use Rattle.header.proofs.WriteLaws.{weight_bits_at}
 use Rattle.settings.specs.Lists.{join}
 use Rattle.settings.specs.Tables.{component_count}
 use Rattle.header.proofs.write.write_bands.Given as goal

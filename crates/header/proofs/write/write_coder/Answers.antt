@@ -1,12 +1,10 @@
 -- The fields put are those of the definition.
-use mathlib.Core.Path.{◌≡◌, refl, sym, ap, ◌∙◌}
+use mathlib.Core.Path.{refl}
 use native.Mathlib.Omega.{arith}
-use Rattle.header.specs.Fields.{fields}
 use Rattle.header.specs.Parts.{coder_fields}
 use Rattle.header.specs.Plain.{fitting}
 use Rattle.header.specs.Writing.{fields_of}
 use Rattle.settings.specs.LegalLaws.{legal_coder}
-use borrow.Author.Rules.{rules}
 use Rattle.header.proofs.write.write_coder.Goals as goal
 
 pub overflow_sub-c : goal.overflow_sub-c

@@ -1,21 +1,20 @@
 -- Each turn puts the k' of the next band.
-use mathlib.Core.Path.{◌≡◌, refl, sym, ap, ◌∙◌}
-use Prim.Native.Nat.{ℕ, ◌+◌, ◌-◌, ◌*◌}
+use mathlib.Core.Path.{ap, ◌∙◌}
+use Prim.Native.Nat.{◌+◌, ◌*◌}
 use native.Mathlib.Omega.{arith}
 use lib.IntN.{pos, nat_abs}
-use lib.ListN.{get_or, length}
+use lib.ListN.{get_or}
 use mir.Facts.{to_z-of_z}
 use mir.Syntax.{w32}
 use mir.Val.{SFits}
-use borrow.Author.Rules.{rules, sfits_of}
+use borrow.Author.Rules.{sfits_of}
 use Rattle.bitstream.proofs.Writes.{put_as}
 use Rattle.bitstream.specs.Laws.{length_bits}
 use Rattle.bitstream.specs.Stream.{bits}
-use Rattle.header.proofs.Joins.{Joins, joins_begin, joins_more, joins_all}
+use Rattle.header.proofs.Joins.{joins_begin, joins_more, joins_all}
 use Rattle.header.proofs.WriteLaws.{facts, accumulator_at}
 use Rattle.header.specs.Tables.{accumulator_table}
-use Rattle.settings.specs.Lists.{join}
-use Rattle.settings.specs.Tables.{table_stride, parameter_slot, entry, component_count}
+use Rattle.settings.specs.Tables.{table_stride, parameter_slot, entry}
 use Rattle.header.proofs.write.write_entries.Goals as goal
 
 pub overflow_cast-bands : goal.overflow_cast-bands

@@ -1,12 +1,10 @@
 -- The five parts stand one behind the other, and the first four are short.
-use mathlib.Core.Path.{◌≡◌, refl, sym, ap, ◌∙◌}
 use native.Mathlib.Omega.{arith}
 use Rattle.bitstream.proofs.Writes.{put_then}
 use Rattle.header.specs.SizeLaws.{length_weight_part, weights_size_most}
 use Rattle.header.proofs.WriteLaws.{facts}
 use Rattle.header.specs.PartLaws.{length_image, length_predictor, length_coder}
 use Rattle.header.specs.Write.{header}
-use borrow.Author.Rules.{rules}
 use Rattle.header.proofs.write.write_header.Goals as goal
 
 pub write_predictor-predictor-requires : goal.write_predictor-predictor-requires

@@ -1,11 +1,9 @@
 -- The fields put are those of the definition.
-use mathlib.Core.Path.{◌≡◌, refl, sym, ap, ◌∙◌}
+use mathlib.Core.Path.{refl}
 use native.Mathlib.Omega.{arith}
-use Rattle.header.specs.Fields.{fields}
 use Rattle.header.specs.Parts.{image_fields}
 use Rattle.header.specs.Plain.{fitting}
 use Rattle.header.specs.Writing.{fields_of}
-use borrow.Author.Rules.{rules}
 use Rattle.header.proofs.write.write_image.Goals as goal
 
 pub put_fields-requires : goal.put_fields-requires

@@ -1,16 +1,13 @@
 -- The fields put are those of the definition.
-use mathlib.Core.Path.{◌≡◌, refl, sym, ap, ◌∙◌}
-use Prim.Native.Nat.{ℕ}
+use mathlib.Core.Path.{refl, ap, ◌∙◌}
 use native.Mathlib.Omega.{arith}
 use lib.IntN.{ℤ, pos, nat_abs, ◌+ℤ◌}
 use mir.Facts.{to_z-of_z}
 use Rattle.header.proofs.WriteLaws.{exponent_least, first_end, last_end}
-use Rattle.header.specs.Fields.{fields}
 use Rattle.header.specs.Parts.{predictor_fields}
 use Rattle.header.specs.Plain.{fitting}
 use Rattle.header.specs.Writing.{fields_of}
 use Rattle.settings.specs.LegalLaws.{legal_predictor}
-use borrow.Author.Rules.{rules}
 use Rattle.header.proofs.write.write_predictor.Goals as goal
 
 pub overflow_sub-interval : goal.overflow_sub-interval

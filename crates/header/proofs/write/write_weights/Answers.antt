@@ -1,12 +1,11 @@
 -- The weights, and the zeros that their number asks for.
-use mathlib.Core.Path.{◌≡◌, refl, sym, ap, ◌∙◌}
+use mathlib.Core.Path.{sym, ◌∙◌}
 use native.Mathlib.Omega.{arith}
 use lib.Pow.{pow_pos}
 use borrow.Author.Tests.{not-true, not-false}
 use Rattle.bitstream.proofs.Writes.{put_as, put_none}
 use Rattle.header.proofs.WriteLaws.{facts, put_filled, weight_part_is, no_weight_part}
 use Rattle.header.specs.TableLaws.{length_weights}
-use borrow.Author.Rules.{rules}
 use Rattle.header.proofs.write.write_weights.Goals as goal
 
 pub returns-then-not-s : goal.returns-then-not-s

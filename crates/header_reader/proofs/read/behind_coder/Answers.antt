@@ -1,10 +1,8 @@
 -- What the table of k' answers is what the definition reads last.
-use mathlib.Core.Path.{◌≡◌, sym, ◌∙◌}
+use mathlib.Core.Path.{sym, ◌∙◌}
 use native.Mathlib.Omega.{arith}
-use Rattle.bitstream.specs.Stream.{unpack}
 use Rattle.header_values.proofs.Positions.{coder_facts}
 use Rattle.header_reader.proofs.HeaderReading.{table_refused, begins, refused_at_accumulators}
-use borrow.Author.Rules.{rules}
 use Rattle.header_reader.proofs.read.behind_coder.Goals as goal
 
 pub read_accumulators-requires : goal.read_accumulators-requires

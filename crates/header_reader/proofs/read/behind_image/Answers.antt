@@ -1,8 +1,6 @@
 -- What the predictor's part answers is what the definition reads next.
-use mathlib.Core.Path.{◌≡◌, sym, ◌∙◌}
-use Rattle.bitstream.specs.Stream.{unpack}
+use mathlib.Core.Path.{sym, ◌∙◌}
 use Rattle.header_reader.proofs.HeaderReading.{predictor_refused, predictor_done, refused_at_predictor}
-use borrow.Author.Rules.{rules}
 use Rattle.header_reader.proofs.read.behind_image.Goals as goal
 
 pub behind_predictor-requires : goal.behind_predictor-requires

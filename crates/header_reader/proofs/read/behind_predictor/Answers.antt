@@ -1,10 +1,7 @@
 -- What the weight table answers is what the definition reads next.
-use mathlib.Core.Path.{◌≡◌, sym, ◌∙◌}
-use native.Mathlib.Omega.{arith}
-use Rattle.bitstream.specs.Stream.{unpack}
+use mathlib.Core.Path.{sym, ◌∙◌}
 use Rattle.header_values.proofs.Positions.{predictor_facts}
 use Rattle.header_reader.proofs.HeaderReading.{table_refused, weights_done, refused_at_weights}
-use borrow.Author.Rules.{rules}
 use Rattle.header_reader.proofs.read.behind_predictor.Goals as goal
 
 pub read_weights-requires : goal.read_weights-requires

@@ -1,10 +1,8 @@
 -- What the coder's part answers is what the definition reads next.
-use mathlib.Core.Path.{◌≡◌, sym, ◌∙◌}
+use mathlib.Core.Path.{sym, ◌∙◌}
 use native.Mathlib.Omega.{arith}
-use Rattle.bitstream.specs.Stream.{unpack}
 use Rattle.header_values.proofs.Positions.{weights_facts}
 use Rattle.header_reader.proofs.HeaderReading.{coder_refused, coder_done, refused_at_coder}
-use borrow.Author.Rules.{rules}
 use Rattle.header_reader.proofs.read.behind_weights.Goals as goal
 
 pub read_coder-requires : goal.read_coder-requires

@@ -1,14 +1,11 @@
 -- Every entry before the one that the loop has reached is legal, so one that is not decides, and so does the end.
 use mathlib.Core.Bool.{Bool, true}
 use mathlib.Core.List.{List}
-use mathlib.Core.Path.{◌≡◌, sym, ap, ◌∙◌}
+use mathlib.Core.Path.{◌≡◌}
 use Prim.Native.Nat.{ℕ, ◌+◌, ◌-◌, ◌*◌, ◌≤◌}
-use native.Mathlib.Omega.{arith}
 use lib.Dec.{leb}
 use lib.ListN.{take, drop}
-use borrow.Author.Tests.{le-leb, lt-leb}
 use Rattle.bitstream.specs.Stream.{number, unpack}
-use Rattle.settings.specs.TableLaws.{every_of, every_more, every_not, every_same}
 use Rattle.settings.specs.Tables.{every}
 use Rattle.header_reader.proofs.read.entries_legal.Given as goal
 

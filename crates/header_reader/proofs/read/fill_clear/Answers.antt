@@ -1,10 +1,8 @@
 -- No bits are zero, and others are a number that the test compares.
-use mathlib.Core.Path.{◌≡◌, sym, ap}
+use mathlib.Core.Path.{ap}
 use Prim.Native.Nat.{ℕ}
 use lib.Dec.{eqb}
-use lib.ListN.{take, drop}
-use Rattle.bitstream.specs.Stream.{number, unpack}
-use borrow.Author.Rules.{rules}
+use Rattle.bitstream.specs.Stream.{number}
 use Rattle.header_reader.proofs.read.fill_clear.Goals as goal
 
 pub returns-then-width-eq0 : goal.returns-then-width-eq0

@@ -3,7 +3,6 @@ use mathlib.Core.Path.{refl}
 use native.Mathlib.Omega.{arith}
 use Rattle.header.specs.FieldLaws.{total}
 use Rattle.header.specs.Plain.{fitting}
-use borrow.Author.Rules.{rules}
 use Rattle.header_reader.proofs.read.predictor_numbers.Goals as goal
 
 pub numbers-requires : goal.numbers-requires

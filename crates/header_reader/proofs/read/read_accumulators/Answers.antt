@@ -1,7 +1,7 @@
 -- Each branch is taken where the definition's test fails, and each test that passed is known to the next.
-use mathlib.Core.Bool.{Bool, true, ◌&&◌}
+use mathlib.Core.Bool.{Bool, ◌&&◌}
 use mathlib.Core.List.{[], List}
-use mathlib.Core.Path.{◌≡◌, refl, sym, ap, ◌∙◌}
+use mathlib.Core.Path.{◌≡◌, sym, ap, ◌∙◌}
 use Prim.Native.Nat.{◌+◌, ◌-◌, ◌*◌, ◌≤◌}
 use native.Mathlib.Omega.{arith}
 use lib.ListN.{length, take, drop, length-drop}
@@ -18,7 +18,6 @@ use Rattle.header.specs.Read.{read_accumulators}
 use Rattle.header.specs.Read.{read_table}
 use Rattle.header.specs.Sizes.{padded}
 use mathlib.Core.Bool.{not}
-use borrow.Author.Rules.{rules}
 use Rattle.header_reader.proofs.read.read_accumulators.Goals as goal
 
 -- the test of the entries

@@ -1,8 +1,6 @@
 -- What the image's part answers is what the definition reads first.
-use mathlib.Core.Path.{◌≡◌, sym, ◌∙◌}
-use Rattle.bitstream.specs.Stream.{unpack}
+use mathlib.Core.Path.{sym, ◌∙◌}
 use Rattle.header_reader.proofs.HeaderReading.{image_refused, image_done, refused_at_image}
-use borrow.Author.Rules.{rules}
 use Rattle.header_reader.proofs.read.read_header.Goals as goal
 
 pub behind_image-requires : goal.behind_image-requires

@@ -2,10 +2,8 @@
 use mathlib.Core.Bool.{false, not, ◌&&◌}
 use mathlib.Core.List.{[], ◌∷◌}
 use mathlib.Core.Path.{◌≡◌, sym, ap, ◌∙◌}
-use Prim.Native.Nat.{◌+◌}
-use native.Mathlib.Omega.{arith}
 use lib.Dec.{ltb, eqb}
-use lib.ListN.{length, drop}
+use lib.ListN.{length}
 use borrow.Author.Tests.{ltb-false}
 use Rattle.bitstream.specs.Stream.{unpack}
 use Rattle.header_reader.proofs.Answering.{PartSeen, absent, illegal, block_coder, past_limit, whole_image, image_part}
@@ -18,7 +16,6 @@ use Rattle.refusals.specs.declared.Refusal.TheVariants.{EndsInHeader, HouseLimit
 use Rattle.refusals.specs.Tests.{◌⇒◌}
 use Rattle.refusals.specs.Reading.{refused}
 use Rattle.settings.specs.Legal.{limited}
-use borrow.Author.Rules.{rules}
 use Rattle.header_reader.proofs.read.read_image.Goals as goal
 
 pub returns-then-ends_before : goal.returns-then-ends_before

@@ -1,10 +1,9 @@
 -- Each branch is taken where the definition's test fails, and each test that passed is known to the next.
-use mathlib.Core.Bool.{false, not, ◌&&◌}
-use mathlib.Core.List.{[], ◌∷◌}
+use mathlib.Core.Bool.{not, ◌&&◌}
+use mathlib.Core.List.{[]}
 use mathlib.Core.Path.{◌≡◌, sym, ap, ◌∙◌}
-use Prim.Native.Nat.{◌+◌}
 use native.Mathlib.Omega.{arith}
-use lib.Dec.{ltb, eqb}
+use lib.Dec.{ltb}
 use lib.ListN.{length, drop}
 use borrow.Author.Tests.{ltb-false}
 use Rattle.bitstream.specs.Stream.{unpack}
@@ -14,9 +13,8 @@ use Rattle.header.specs.FieldLaws.{split_lt}
 use Rattle.header.specs.Places.{weight_resolution, exponent_interval, initial_exponent, final_exponent}
 use Rattle.header.specs.Parts.{predictor_widths, image_bits, predictor_bits}
 use Rattle.header.specs.Read.{read_predictor}
-use Rattle.refusals.specs.declared.Refusal.TheVariants.{EndsInHeader, HouseLimit, BlockCoder}
+use Rattle.refusals.specs.declared.Refusal.TheVariants.{EndsInHeader}
 use Rattle.refusals.specs.Reading.{refused}
-use borrow.Author.Rules.{rules}
 use Rattle.header_reader.proofs.read.read_predictor.Goals as goal
 
 pub returns-then-ends_before : goal.returns-then-ends_before

@@ -15,7 +15,6 @@ use Rattle.header.specs.Read.{read_table}
 use Rattle.header.specs.Read.{read_weights}
 use Rattle.header.specs.Sizes.{padded}
 use mathlib.Core.Bool.{not}
-use borrow.Author.Rules.{rules}
 use Rattle.header_reader.proofs.read.read_weights.Goals as goal
 
 pub returns-then-not-predictor : goal.returns-then-not-predictor

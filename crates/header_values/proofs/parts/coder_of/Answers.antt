@@ -2,7 +2,6 @@
 use Prim.Native.Nat.{◌+◌}
 use Rattle.header.specs.Places.{◌‼◌, rescaling_size, accumulator_constant, accumulator_table_flag}
 use Rattle.header.specs.Parts.{is_one, no_constant, coder_of}
-use borrow.Author.Rules.{rules}
 use Rattle.header_values.proofs.parts.coder_of.Goals as goal
 
 pub returns : goal.returns

@@ -4,7 +4,6 @@ use mathlib.Core.Bool.{cond}
 use Prim.Native.Nat.{ℕ}
 use Rattle.header.specs.Places.{◌‼◌, user_data, sample_type, encoding_order}
 use Rattle.header.specs.Parts.{is_one, image_of}
-use borrow.Author.Rules.{rules}
 use Rattle.header_values.proofs.parts.image_of.Goals as goal
 
 pub returns : goal.returns

@@ -4,7 +4,6 @@ use native.Mathlib.Omega.{arith}
 use Rattle.header.specs.Places.{◌‼◌, prediction_bands, prediction_mode, local_sum_type, weight_resolution, initial_exponent, final_exponent, weight_method, weight_table_flag}
 use Rattle.header.specs.Parts.{is_one, predictor_of}
 use Rattle.header.proofs.Signs.{lowered}
-use borrow.Author.Rules.{rules}
 use Rattle.header_values.proofs.parts.predictor_of.Goals as goal
 
 pub overflow_sub-result : goal.overflow_sub-result

@@ -1,6 +1,5 @@
 -- The test of the code is that of the definition.
 use borrow.Author.Tests.{eq-eqb, ne_eqb}
-use borrow.Author.Rules.{rules}
 use Rattle.header_values.proofs.parts.unwrapped.Goals as goal
 
 pub returns-then-v-eq0 : goal.returns-then-v-eq0

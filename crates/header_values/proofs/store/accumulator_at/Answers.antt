@@ -9,7 +9,6 @@ use mir.Syntax.{w32}
 use Rattle.bitstream.specs.Stream.{unpack}
 use Rattle.header.specs.FieldLaws.{number_take_lt}
 use Rattle.header_values.proofs.StoreLaws.{EntryIn, entry_in}
-use borrow.Author.Rules.{rules}
 use Rattle.header_values.proofs.store.accumulator_at.Goals as goal
 
 pub overflow_add-at : goal.overflow_add-at

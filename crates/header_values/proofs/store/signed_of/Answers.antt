@@ -6,7 +6,6 @@ use mir.Facts.{to_z_pos}
 use mir.Syntax.{w32}
 use Rattle.header.proofs.Signs.{small_power}
 use Rattle.header_values.proofs.StoreLaws.{Lowering, signed_low, lowering}
-use borrow.Author.Rules.{rules}
 use Rattle.header_values.proofs.store.signed_of.Goals as goal
 
 pub overflow_cast-result : goal.overflow_cast-result

@@ -6,7 +6,6 @@ use mir.Facts.{to_z-of_z}
 use mir.Syntax.{w32}
 use Rattle.integers.specs.Laws.{ok}
 use Rattle.header_values.proofs.StoreLaws.{slot_single, slot_default, slot_beyond, slot_accumulator, slot_weight}
-use borrow.Author.Rules.{rules}
 use Rattle.header_values.proofs.store.slot_at.Goals as goal
 
 pub returns-then-s : goal.returns-then-s

@@ -1,13 +1,7 @@
 -- Each turn lays the next slot.
-use mathlib.Core.Path.{◌∙◌}
-use Prim.Native.Nat.{◌-◌, ◌<◌}
-use native.Mathlib.Omega.{arith}
-use mir.Facts.{to_z-of_z}
-use mir.Syntax.{w32}
-use Rattle.integers.specs.Laws.{ok}
+use Prim.Native.Nat.{◌-◌}
 use Rattle.bitstream.specs.Stream.{unpack}
-use Rattle.settings.specs.Limits.{most_bands}
-use Rattle.header_values.proofs.StoreLaws.{Laying, laying_begin, laying_more, laying_all, bands_few}
+use Rattle.header_values.proofs.StoreLaws.{Laying}
 use Rattle.header_values.proofs.store.store_band.Given as goal
 
 abbrev pub invariant-loop-i : goal.invariant-loop-i

@@ -1,5 +1,5 @@
 -- Each turn lays the next band.
-use Prim.Native.Nat.{ℕ, ◌+◌, ◌-◌, ◌*◌, ◌≤◌}
+use Prim.Native.Nat.{ℕ, ◌+◌, ◌*◌, ◌≤◌}
 use native.Mathlib.Omega.{arith}
 use Rattle.bitstream.specs.Stream.{unpack}
 use Rattle.header.specs.Parts.{fixed_bits}
@@ -7,8 +7,7 @@ use Rattle.header.specs.Tables.{components_before}
 use Rattle.header_values.specs.Storing.{AccumulatorsDone}
 use Rattle.settings.specs.LegalLaws.{legal_predictor}
 use Rattle.header.specs.SizeLaws.{components_most}
-use Rattle.header_values.proofs.StoreLaws.{Bands, bands_begin, bands_more, bands_all, bands_few, components_few, storing_done, storing_facts}
-use borrow.Author.Rules.{rules}
+use Rattle.header_values.proofs.StoreLaws.{bands_begin, bands_more, bands_all, bands_few, components_few, storing_done, storing_facts}
 use Rattle.header_values.proofs.store.store_tables.Goals as goal
 
 pub weights_size-at-requires : goal.weights_size-at-requires

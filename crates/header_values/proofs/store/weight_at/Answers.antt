@@ -11,7 +11,6 @@ use Rattle.header.specs.Parts.{predictor_end}
 use Rattle.header.specs.FieldLaws.{number_take_lt}
 use Rattle.header.specs.Tables.{signed_of}
 use Rattle.header_values.proofs.StoreLaws.{WeightAt, weight_from}
-use borrow.Author.Rules.{rules}
 use Rattle.header_values.proofs.store.weight_at.Goals as goal
 
 pub overflow_add-first : goal.overflow_add-first

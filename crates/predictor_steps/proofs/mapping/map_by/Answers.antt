@@ -5,7 +5,6 @@ use lib.IntN.{nat_abs}
 use mir.Facts.{to_z-of_z}
 use Rattle.integers.specs.Laws.{zs, abs_parts}
 use Rattle.predictor_steps.proofs.Maps.{far, even_below, even_above, odd_above, odd_below}
-use borrow.Author.Rules.{rules}
 use Rattle.predictor_steps.proofs.mapping.map_by.Goals as goal
 
 pub overflow_add-result : goal.overflow_add-result

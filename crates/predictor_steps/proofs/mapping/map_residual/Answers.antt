@@ -11,7 +11,6 @@ use Rattle.integers.specs.Integer.{floor_div, is_even}
 use Rattle.integers.specs.Laws.{zs, ok, wide, sub, one0, abs_parts, floor}
 use Rattle.predictor.specs.Mapping.{theta, map_residual, mapped_by}
 use Rattle.predictor_steps.proofs.Maps.{map_le, theta_le}
-use borrow.Author.Rules.{rules}
 use Rattle.predictor_steps.proofs.mapping.map_residual.Goals as goal
 
 pub overflow_cast-low : goal.overflow_cast-low

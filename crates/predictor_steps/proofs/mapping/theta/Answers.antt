@@ -7,7 +7,6 @@ use mir.Val.{SFits}
 use mir.Facts.{to_z-of_z}
 use Rattle.integers.specs.Laws.{zs, sub, abs_parts}
 use Rattle.predictor.specs.Mapping.{theta}
-use borrow.Author.Rules.{rules}
 use Rattle.predictor_steps.proofs.mapping.theta.Goals as goal
 
 pub overflow_sub-prediction : goal.overflow_sub-prediction

@@ -6,7 +6,6 @@ use mir.Syntax.{w64}
 use mir.Facts.{to_z-of_z, to_z_pos}
 use Rattle.integers.specs.Laws.{ok}
 use Rattle.predictor_steps.proofs.Maps.{near_even, near_odd, away}
-use borrow.Author.Rules.{rules}
 use Rattle.predictor_steps.proofs.mapping.unmap_by.Goals as goal
 
 pub oriented-requires : goal.oriented-requires

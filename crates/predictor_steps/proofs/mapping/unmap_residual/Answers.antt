@@ -12,7 +12,6 @@ use Rattle.integers.specs.Integer.{floor_div, is_even}
 use Rattle.integers.specs.Laws.{zs, ok, wide, sub, one0, abs_parts, floor}
 use Rattle.predictor.specs.Mapping.{theta, unmap_residual, unmapped_by}
 use Rattle.predictor_steps.proofs.Maps.{theta_le, unmapped_in}
-use borrow.Author.Rules.{rules}
 use Rattle.predictor_steps.proofs.mapping.unmap_residual.Goals as goal
 
 pub overflow_cast-least : goal.overflow_cast-least

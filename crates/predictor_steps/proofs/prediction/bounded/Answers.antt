@@ -8,7 +8,6 @@ use Rattle.integers.specs.Integer.{floor_div, clip}
 use Rattle.integers.specs.Laws.{ok}
 use Rattle.predictor_steps.proofs.PredictionFits.{Bounded, bounded_fits}
 use Rattle.predictor_steps.proofs.Sizes.{floor_small}
-use borrow.Author.Rules.{rules}
 use Rattle.predictor_steps.proofs.prediction.bounded.Goals as goal
 
 pub overflow_cast-middle : goal.overflow_cast-middle

@@ -12,7 +12,6 @@ use Rattle.predictor.specs.Inputs.{area, area_small}
 use Rattle.predictor_steps.proofs.Firsts.{before_in, first_behind, first_none, first_band}
 use Rattle.predictor_steps.proofs.PredictionFits.{Twice, twice_fits}
 use borrow.Author.Tests.{lt-ltb, le-ltb}
-use borrow.Author.Rules.{rules}
 use Rattle.predictor_steps.proofs.prediction.first_prediction.Goals as goal
 
 pub overflow_mul-area : goal.overflow_mul-area

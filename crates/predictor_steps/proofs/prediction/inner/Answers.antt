@@ -1,16 +1,15 @@
 -- `predictor_steps::prediction::inner` meets its contract: what is summed so far and the products to come are the whole sum, and each product adds at most 2^40 to its size.
-use mathlib.Core.Path.{◌≡◌, sym, ◌∙◌}
-use Prim.Native.Nat.{◌+◌, ◌-◌, ◌*◌, ◌^◌, ◌≤◌}
+use mathlib.Core.Path.{sym, ◌∙◌}
+use Prim.Native.Nat.{◌≤◌}
 use native.Mathlib.Omega.{arith}
-use lib.ListN.{length, get_or, drop, drop_of_length-le}
-use lib.IntN.{pos, ◌+ℤ◌, +ℤ_idl, +ℤ_idr}
+use lib.ListN.{length, get_or, drop_of_length-le}
+use lib.IntN.{pos, +ℤ_idl, +ℤ_idr}
 use mir.Syntax.{w32, w64}
 use mir.Val.{SFits, to_z}
 use mir.Facts.{to_z-of_z}
-use Rattle.integers.specs.Laws.{P, N, zs}
+use Rattle.integers.specs.Laws.{zs}
 use Rattle.predictor.specs.Prediction.{inner}
 use Rattle.predictor_steps.proofs.InnerSteps.{small_at, Turn, turn, step}
-use borrow.Author.Rules.{rules}
 use Rattle.predictor_steps.proofs.prediction.inner.Goals as goal
 
 pub loop-i-init : goal.loop-i-init

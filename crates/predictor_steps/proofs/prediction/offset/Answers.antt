@@ -6,7 +6,6 @@ use mir.Facts.{to_z-of_z}
 use Rattle.integers.specs.Laws.{ok}
 use Rattle.predictor_steps.proofs.PredictionFits.{Offset, offset_fits}
 use Rattle.predictor_steps.proofs.Sizes.{power_small}
-use borrow.Author.Rules.{rules}
 use Rattle.predictor_steps.proofs.prediction.offset.Goals as goal
 
 pub overflow_cast-result : goal.overflow_cast-result

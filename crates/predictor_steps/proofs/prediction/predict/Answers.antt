@@ -10,7 +10,6 @@ use Rattle.integers.specs.Laws.{P, N, zs, ok, add, abs_parts}
 use Rattle.predictor.specs.LocalSum.{two, four}
 use Rattle.predictor.specs.Prediction.{scaled_by}
 use Rattle.predictor_steps.proofs.Sizes.{inner_small}
-use borrow.Author.Rules.{rules}
 use Rattle.predictor_steps.proofs.prediction.predict.Goals as goal
 
 pub overflow_add-product : goal.overflow_add-product

@@ -11,7 +11,6 @@ use Rattle.integers.specs.Laws.{ok, sz_abs, sz_fits}
 use Rattle.predictor.specs.Weights.{custom_weight}
 use Rattle.predictor_steps.proofs.Sizes.{power_small}
 use Rattle.predictor_steps.proofs.WeightFits.{Custom, custom_fits}
-use borrow.Author.Rules.{rules}
 use Rattle.predictor_steps.proofs.weights.custom_weight.Goals as goal
 
 pub overflow_cast-result : goal.overflow_cast-result

@@ -1,6 +1,6 @@
 -- `predictor_steps::weights::custom_weights` meets its contract: the slots passed hold the weights of their table values.
 use mathlib.Core.Path.{◌≡◌, refl, sym, ◌∙◌}
-use Prim.Native.Nat.{ℕ, ◌+◌, ◌-◌, ◌<◌, ◌≤◌}
+use Prim.Native.Nat.{ℕ, ◌+◌, ◌<◌}
 use native.Mathlib.Omega.{arith}
 use lib.ListN.{length, get_or, length-set}
 use lib.Seq.{ext_get_or}
@@ -12,7 +12,6 @@ use Rattle.settings.specs.Lists.{join, one}
 use Rattle.settings.specs.ListLaws.{length_ones, get_or_ones}
 use Rattle.predictor.specs.Weights.{custom_weight}
 use Rattle.predictor.specs.Each.{done_more}
-use borrow.Author.Rules.{rules}
 use Rattle.predictor_steps.proofs.weights.custom_weights.Goals as goal
 
 pub loop-i-init : goal.loop-i-init

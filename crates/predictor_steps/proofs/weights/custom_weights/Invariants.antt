@@ -1,17 +1,9 @@
 -- `predictor_steps::weights::custom_weights` meets its contract: the slots passed hold the weights of their table values.
-use mathlib.Core.Path.{◌≡◌, refl, sym, ◌∙◌}
+use mathlib.Core.Path.{◌≡◌}
 use Prim.Native.Nat.{ℕ, ◌+◌, ◌-◌, ◌<◌, ◌≤◌}
-use native.Mathlib.Omega.{arith}
-use lib.ListN.{length, get_or, length-set}
-use lib.Seq.{ext_get_or}
-use lib.IntN.{ℤ, pos}
-use mir.Syntax.{w32}
-use mir.Facts.{to_z-of_z}
-use Rattle.integers.specs.Laws.{ok}
-use Rattle.settings.specs.Lists.{join, one}
-use Rattle.settings.specs.ListLaws.{length_ones, get_or_ones}
+use lib.ListN.{length, get_or}
+use lib.IntN.{pos}
 use Rattle.predictor.specs.Weights.{custom_weight}
-use Rattle.predictor.specs.Each.{done_more}
 use Rattle.predictor_steps.proofs.weights.custom_weights.Given as goal
 
 abbrev pub invariant-loop-i : goal.invariant-loop-i

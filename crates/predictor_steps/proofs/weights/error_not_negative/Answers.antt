@@ -1,7 +1,6 @@
 -- `predictor_steps::weights::error_not_negative` meets its contract: every number on the way fits.
 use mir.Facts.{to_z-of_z}
 use Rattle.predictor_steps.proofs.WeightFits.{Error, error_fits}
-use borrow.Author.Rules.{rules}
 use Rattle.predictor_steps.proofs.weights.error_not_negative.Goals as goal
 
 pub overflow_cast-result : goal.overflow_cast-result

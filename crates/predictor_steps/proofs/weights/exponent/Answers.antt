@@ -13,7 +13,6 @@ use Rattle.settings.specs.Limits.{most_samples}
 use Rattle.predictor.specs.WeightUpdate.{exponent_by}
 use Rattle.predictor.specs.Asks.{Schedule}
 use Rattle.predictor_steps.proofs.WeightFits.{Exponent, exponent_fits}
-use borrow.Author.Rules.{rules}
 use Rattle.predictor_steps.proofs.weights.exponent.Goals as goal
 
 -- the unsigned arguments as integers, and the first difference

@@ -1,5 +1,5 @@
 -- `predictor_steps::weights::gain` meets its contract: each sign of the exponent is one shift, of a sum or of a product that fits.
-use mathlib.Core.Path.{◌≡◌, ◌∙◌}
+use mathlib.Core.Path.{◌≡◌}
 use Prim.Native.Nat.{◌+◌, ◌^◌, ◌≤◌}
 use native.Mathlib.Omega.{arith}
 use lib.IntN.{pos, nat_abs, ◌+ℤ◌, ◌-ℤ◌, ◌*ℤ◌}
@@ -9,7 +9,6 @@ use mir.Facts.{to_z-of_z}
 use Rattle.integers.specs.Laws.{P, N, zs, ok, add, sub, abs_parts, shr_floor, floor_fits}
 use Rattle.predictor_steps.proofs.Gains.{gain_right, gain_left}
 use Rattle.predictor_steps.proofs.WeightFits.{sum_fits, product_small, turned_small}
-use borrow.Author.Rules.{rules}
 use Rattle.predictor_steps.proofs.weights.gain.Goals as goal
 
 pub overflow_cast-shift : goal.overflow_cast-shift

@@ -8,7 +8,6 @@ use lib.ListN.{length, length-append}
 use lib.Seq.{length-take-le}
 use lib.IntN.{pos}
 use Rattle.predictor_steps.proofs.Beginnings.{zero_eighths, resolution_most, custom_asks, custom_are, full_long, reduced_begin, full_begin}
-use borrow.Author.Rules.{rules}
 use Rattle.predictor_steps.proofs.weights.initial_weights.Goals as goal
 
 pub custom_weights-requires : goal.custom_weights-requires

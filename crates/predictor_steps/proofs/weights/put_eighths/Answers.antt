@@ -1,6 +1,6 @@
 -- `predictor_steps::weights::put_eighths` meets its contract: the slots passed hold eighths, and the weight at hand is the next.
-use mathlib.Core.Path.{◌≡◌, refl, sym, ◌∙◌}
-use Prim.Native.Nat.{ℕ, ◌-◌, ◌^◌, ◌<◌, ◌≤◌}
+use mathlib.Core.Path.{refl, sym, ◌∙◌}
+use Prim.Native.Nat.{◌^◌, ◌<◌}
 use native.Mathlib.Omega.{arith}
 use lib.ListN.{length, get_or, length-set}
 use lib.Seq.{ext_get_or}
@@ -11,7 +11,6 @@ use Rattle.predictor.specs.Weights.{eighths}
 use Rattle.predictor.specs.Lengths.{eighths_length}
 use Rattle.predictor.specs.Each.{done_more}
 use Rattle.predictor_steps.proofs.Beginnings.{eighth_first, eighth_next}
-use borrow.Author.Rules.{rules}
 use Rattle.predictor_steps.proofs.weights.put_eighths.Goals as goal
 
 pub loop-i-init : goal.loop-i-init

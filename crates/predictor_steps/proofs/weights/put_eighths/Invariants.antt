@@ -1,16 +1,9 @@
 -- `predictor_steps::weights::put_eighths` meets its contract: the slots passed hold eighths, and the weight at hand is the next.
-use mathlib.Core.Path.{◌≡◌, refl, sym, ◌∙◌}
-use Prim.Native.Nat.{ℕ, ◌-◌, ◌^◌, ◌<◌, ◌≤◌}
-use native.Mathlib.Omega.{arith}
-use lib.ListN.{length, get_or, length-set}
-use lib.Seq.{ext_get_or}
+use mathlib.Core.Path.{◌≡◌}
+use Prim.Native.Nat.{ℕ, ◌-◌, ◌<◌, ◌≤◌}
+use lib.ListN.{length, get_or}
 use lib.IntN.{pos}
-use mir.Syntax.{w32}
-use mir.Facts.{to_z_pos}
 use Rattle.predictor.specs.Weights.{eighths}
-use Rattle.predictor.specs.Lengths.{eighths_length}
-use Rattle.predictor.specs.Each.{done_more}
-use Rattle.predictor_steps.proofs.Beginnings.{eighth_first, eighth_next}
 use Rattle.predictor_steps.proofs.weights.put_eighths.Given as goal
 
 abbrev pub invariant-loop-i : goal.invariant-loop-i

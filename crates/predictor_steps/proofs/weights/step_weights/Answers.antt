@@ -1,6 +1,6 @@
 -- `predictor_steps::weights::step_weights` meets its contract: the slots passed are stepped, and the others are as they were.
 use mathlib.Core.Path.{◌≡◌, refl, sym, ◌∙◌, ap, ap₂}
-use Prim.Native.Nat.{ℕ, ◌-◌, ◌<◌, ◌≤◌}
+use Prim.Native.Nat.{◌<◌}
 use native.Mathlib.Omega.{arith}
 use lib.ListN.{length, get_or, length-set}
 use lib.IntN.{ℤ, pos}
@@ -11,7 +11,6 @@ use Rattle.integers.specs.Laws.{ok}
 use Rattle.predictor.specs.WeightUpdate.{weight_step}
 use Rattle.predictor.specs.Each.{done_more}
 use Rattle.predictor_steps.proofs.Gains.{left_more, stepped_are}
-use borrow.Author.Rules.{rules}
 use Rattle.predictor_steps.proofs.weights.step_weights.Goals as goal
 
 pub loop-i-init : goal.loop-i-init

@@ -1,16 +1,9 @@
 -- `predictor_steps::weights::step_weights` meets its contract: the slots passed are stepped, and the others are as they were.
-use mathlib.Core.Path.{◌≡◌, refl, sym, ◌∙◌, ap, ap₂}
+use mathlib.Core.Path.{◌≡◌}
 use Prim.Native.Nat.{ℕ, ◌-◌, ◌<◌, ◌≤◌}
-use native.Mathlib.Omega.{arith}
-use lib.ListN.{length, get_or, length-set}
-use lib.IntN.{ℤ, pos}
-use mir.Syntax.{w32}
-use mir.Val.{to_z, of_z}
-use mir.Facts.{to_z-of_z}
-use Rattle.integers.specs.Laws.{ok}
+use lib.ListN.{length, get_or}
+use lib.IntN.{pos}
 use Rattle.predictor.specs.WeightUpdate.{weight_step}
-use Rattle.predictor.specs.Each.{done_more}
-use Rattle.predictor_steps.proofs.Gains.{left_more, stepped_are}
 use Rattle.predictor_steps.proofs.weights.step_weights.Given as goal
 
 abbrev pub invariant-loop-i : goal.invariant-loop-i

@@ -13,7 +13,6 @@ use Rattle.predictor.specs.WeightUpdate.{gain, weight_step}
 use Rattle.predictor_steps.proofs.Gains.{ends}
 use Rattle.predictor_steps.proofs.Sizes.{power_small, oriented_small, gain_small, step_small}
 use Rattle.predictor_steps.proofs.WeightFits.{Step, step_fits}
-use borrow.Author.Rules.{rules}
 use Rattle.predictor_steps.proofs.weights.weight_step.Goals as goal
 
 pub overflow_cast-u : goal.overflow_cast-u

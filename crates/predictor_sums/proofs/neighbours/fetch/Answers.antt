@@ -5,7 +5,6 @@ use native.Mathlib.Omega.{arith}
 use mir.Syntax.{w32}
 use mir.Facts.{to_z-of_z}
 use Rattle.integers.specs.Laws.{ok}
-use borrow.Author.Rules.{rules}
 use Rattle.predictor_sums.proofs.neighbours.fetch.Goals as goal
 
 pub within-up-requires : goal.within-up-requires

@@ -2,7 +2,6 @@
 use native.Mathlib.Nat.{mod-lt}
 use native.Mathlib.Omega.{arith}
 use Rattle.predictor.specs.LocalSum.{position_at}
-use borrow.Author.Rules.{rules}
 use Rattle.predictor_sums.proofs.neighbours.position_at.Goals as goal
 
 pub overflow_add-result : goal.overflow_add-result

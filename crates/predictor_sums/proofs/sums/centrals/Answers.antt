@@ -1,10 +1,9 @@
 -- The slots passed hold the differences of the bands before, nearest first.
-use mathlib.Core.Path.{◌≡◌, refl, ◌∙◌}
-use Prim.Native.Nat.{ℕ, ◌-◌, ◌*◌, ◌<◌, ◌≤◌}
+use mathlib.Core.Path.{refl, ◌∙◌}
+use Prim.Native.Nat.{◌-◌, ◌*◌, ◌<◌}
 use native.Mathlib.Omega.{arith}
 use lib.Arith.{digits_lt}
-use lib.ListN.{length, get_or, length-set}
-use lib.IntN.{pos}
+use lib.ListN.{length, length-set}
 use mir.Syntax.{w32}
 use mir.Facts.{to_z-of_z}
 use Rattle.integers.specs.Laws.{ok}
@@ -14,7 +13,6 @@ use Rattle.predictor.specs.Asks.{bands_of}
 use Rattle.predictor_sums.specs.Asks.{Window}
 use Rattle.predictor_sums.proofs.Fetches.{fetching, central_is}
 use Rattle.predictor_sums.proofs.Slots.{centrals_are}
-use borrow.Author.Rules.{rules}
 use Rattle.predictor_sums.proofs.sums.centrals.Goals as goal
 
 pub loop-i-init : goal.loop-i-init

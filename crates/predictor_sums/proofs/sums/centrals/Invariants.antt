@@ -1,19 +1,10 @@
 -- The slots passed hold the differences of the bands before, nearest first.
-use mathlib.Core.Path.{◌≡◌, refl, ◌∙◌}
-use Prim.Native.Nat.{ℕ, ◌-◌, ◌*◌, ◌<◌, ◌≤◌}
-use native.Mathlib.Omega.{arith}
-use lib.Arith.{digits_lt}
-use lib.ListN.{length, get_or, length-set}
+use mathlib.Core.Path.{◌≡◌}
+use Prim.Native.Nat.{ℕ, ◌-◌, ◌<◌, ◌≤◌}
+use lib.ListN.{length, get_or}
 use lib.IntN.{pos}
-use mir.Syntax.{w32}
-use mir.Facts.{to_z-of_z}
-use Rattle.integers.specs.Laws.{ok}
 use Rattle.predictor.specs.Differences.{central_at}
-use Rattle.predictor.specs.Each.{done_more}
 use Rattle.predictor.specs.Asks.{bands_of}
-use Rattle.predictor_sums.specs.Asks.{Window}
-use Rattle.predictor_sums.proofs.Fetches.{fetching, central_is}
-use Rattle.predictor_sums.proofs.Slots.{centrals_are}
 use Rattle.predictor_sums.proofs.sums.centrals.Given as goal
 
 abbrev pub invariant-loop-i : goal.invariant-loop-i

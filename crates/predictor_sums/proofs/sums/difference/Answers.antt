@@ -1,7 +1,6 @@
 -- `predictor_sums::sums::difference` meets its contract: every number on the way fits.
 use mir.Facts.{to_z-of_z}
 use Rattle.predictor_sums.proofs.SumFits.{Difference, difference_fits}
-use borrow.Author.Rules.{rules}
 use Rattle.predictor_sums.proofs.sums.difference.Goals as goal
 
 pub overflow_cast-result : goal.overflow_cast-result

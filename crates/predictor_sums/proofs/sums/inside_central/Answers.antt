@@ -12,7 +12,6 @@ use Rattle.predictor.specs.Differences.{difference}
 use Rattle.predictor_sums.specs.Fetch.{fetched}
 use Rattle.predictor_sums.specs.Asks.{inside}
 use Rattle.predictor_sums.proofs.Fetches.{fetched_small, sum_small, sum_inside}
-use borrow.Author.Rules.{rules}
 use Rattle.predictor_sums.proofs.sums.inside_central.Goals as goal
 
 pub overflow_sub-at : goal.overflow_sub-at

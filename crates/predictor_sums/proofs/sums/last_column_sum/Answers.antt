@@ -1,7 +1,6 @@
 -- `predictor_sums::sums::last_column_sum` meets its contract: every number on the way fits.
 use mir.Facts.{to_z-of_z}
 use Rattle.predictor_sums.proofs.SumFits.{LastColumn, last_column_fits}
-use borrow.Author.Rules.{rules}
 use Rattle.predictor_sums.proofs.sums.last_column_sum.Goals as goal
 
 pub overflow_cast-result : goal.overflow_cast-result

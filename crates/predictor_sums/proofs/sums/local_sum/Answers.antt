@@ -1,5 +1,5 @@
 -- Each branch is one case of the definition.
-use borrow.Author.Rules.{rules, sfits_of}
+use borrow.Author.Rules.{sfits_of}
 use mathlib.Core.Path.{◌∙◌}
 use mir.Syntax.{w32, w64}
 use mir.Val.{SFits}

@@ -1,7 +1,6 @@
 -- `predictor_sums::sums::put_three` meets its contract: three stores make a list of three.
 use mir.Facts.{to_z-of_z}
 use Rattle.predictor_sums.proofs.Slots.{three}
-use borrow.Author.Rules.{rules}
 use Rattle.predictor_sums.proofs.sums.put_three.Goals as goal
 
 pub returns : goal.returns

@@ -1,6 +1,5 @@
 -- `predictor_sums::sums::times` meets its contract: the product of two numbers of 32 bits fits 64.
 use Rattle.integers.specs.Laws.{z64}
-use borrow.Author.Rules.{rules}
 use Rattle.predictor_sums.proofs.sums.times.Goals as goal
 
 pub overflow_cast-result : goal.overflow_cast-result

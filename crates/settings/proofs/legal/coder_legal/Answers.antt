@@ -1,6 +1,5 @@
 -- The chain of tests is the definition's, link by link; sums are formed at 64 bits, where they fit.
 use Rattle.settings.specs.Legal.{coder_legal}
-use borrow.Author.Rules.{rules}
 use Rattle.settings.proofs.legal.coder_legal.Goals as goal
 
 pub returns : goal.returns

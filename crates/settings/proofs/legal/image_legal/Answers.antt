@@ -1,6 +1,5 @@
 -- The chain of tests is the definition's, link by link.
 use Rattle.settings.specs.Legal.{image_legal}
-use borrow.Author.Rules.{rules}
 use Rattle.settings.proofs.legal.image_legal.Goals as goal
 
 pub returns : goal.returns

@@ -4,7 +4,6 @@ use native.Mathlib.Nat.{mul-le-mul}
 use native.Mathlib.Omega.{arith}
 use mir.Facts.{Fits-le, Fits-lit}
 use Rattle.settings.specs.LegalLaws.{area_fits, bands_pass, no_bands, area_passes, by_samples}
-use borrow.Author.Rules.{rules}
 use Rattle.settings.proofs.legal.limited.Goals as goal
 
 pub overflow_mul-area : goal.overflow_mul-area

@@ -2,7 +2,7 @@
 use mir.Facts.{to_z-of_z}
 use mir.Syntax.{w32}
 use mir.Val.{SFits}
-use borrow.Author.Rules.{sfits_of, rules}
+use borrow.Author.Rules.{sfits_of}
 use Rattle.settings.specs.Legal.{predictor_legal}
 use Rattle.settings.proofs.legal.predictor_legal.Goals as goal
 

@@ -3,7 +3,6 @@ use mathlib.Core.Path.{refl}
 use native.Mathlib.Omega.{arith}
 use Rattle.settings.specs.Legal.{sample_count}
 use Rattle.settings.specs.LegalLaws.{area_fits}
-use borrow.Author.Rules.{rules}
 use Rattle.settings.proofs.legal.sample_count.Goals as goal
 
 pub overflow_mul-result : goal.overflow_mul-result

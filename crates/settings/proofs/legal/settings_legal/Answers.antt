@@ -1,6 +1,5 @@
 -- The settings are legal where their three parts are.
 use Rattle.settings.specs.Legal.{settings_legal}
-use borrow.Author.Rules.{rules}
 use Rattle.settings.proofs.legal.settings_legal.Goals as goal
 
 pub returns : goal.returns

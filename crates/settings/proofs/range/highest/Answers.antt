@@ -6,7 +6,6 @@ use mir.Syntax.{w32}
 use mir.Facts.{to_z_pos}
 use Rattle.settings.specs.Range.{highest}
 use Rattle.settings.specs.Words.{Power31, power_of}
-use borrow.Author.Rules.{rules}
 use Rattle.settings.proofs.range.highest.Goals as goal
 
 signed : (c : goal.After-power) → Power31 c.power.result

@@ -4,7 +4,6 @@ use Prim.Native.Nat.{◌-◌, ◌^◌, ◌<◌}
 use native.Mathlib.Omega.{arith}
 use Rattle.settings.specs.Range.{lowest}
 use Rattle.settings.specs.Words.{negated, power_of}
-use borrow.Author.Rules.{rules}
 use Rattle.settings.proofs.range.lowest.Goals as goal
 
 small : (c : goal.After-power) → c.power.result < 2 ^ 31

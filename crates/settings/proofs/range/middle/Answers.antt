@@ -6,7 +6,6 @@ use mir.Syntax.{w32}
 use mir.Facts.{to_z_pos}
 use Rattle.settings.specs.Range.{middle}
 use Rattle.settings.specs.Words.{power_of}
-use borrow.Author.Rules.{rules}
 use Rattle.settings.proofs.range.middle.Goals as goal
 
 small : (c : goal.After-power) → c.power.result < 2 ^ 31

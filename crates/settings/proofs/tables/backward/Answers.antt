@@ -1,7 +1,6 @@
 -- The smaller of two numbers.
 use native.Mathlib.Omega.{arith}
 use Rattle.settings.specs.Tables.{backward}
-use borrow.Author.Rules.{rules}
 use Rattle.settings.proofs.tables.backward.Goals as goal
 
 pub returns-then-z-bands : goal.returns-then-z-bands

@@ -2,7 +2,6 @@
 use native.Mathlib.Omega.{arith}
 use Rattle.settings.specs.Tables.{component_count}
 use Rattle.settings.specs.TableLaws.{backward_most}
-use borrow.Author.Rules.{rules}
 use Rattle.settings.proofs.tables.component_count.Goals as goal
 
 pub overflow_add-result : goal.overflow_add-result

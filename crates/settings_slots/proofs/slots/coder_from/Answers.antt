@@ -3,7 +3,6 @@ use lib.IntN.{pos, nat_abs}
 use lib.ListN.{get_or}
 use Rattle.settings_slots.specs.Slots.{coder_from}
 use Rattle.settings_slots.proofs.Fields.{unless_set}
-use borrow.Author.Rules.{rules}
 use Rattle.settings_slots.proofs.slots.coder_from.Goals as goal
 
 pub returns : goal.returns

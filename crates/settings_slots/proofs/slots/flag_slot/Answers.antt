@@ -1,5 +1,4 @@
 -- Each arm is the condition's.
-use borrow.Author.Rules.{rules}
 use Rattle.settings_slots.proofs.slots.flag_slot.Goals as goal
 
 pub returns-then-b : goal.returns-then-b

@@ -1,6 +1,5 @@
 -- The record holds the slots where its three parts do.
 use Rattle.settings_slots.specs.Slots.{holds}
-use borrow.Author.Rules.{rules}
 use Rattle.settings_slots.proofs.slots.holds.Goals as goal
 
 pub returns : goal.returns

@@ -5,7 +5,6 @@ use lib.ListN.{get_or}
 use Rattle.settings_slots.specs.Slots.{image_from}
 use Rattle.settings_slots.specs.SlotLaws.{user_small}
 use Rattle.settings_slots.proofs.Fields.{unless_set}
-use borrow.Author.Rules.{rules}
 use Rattle.settings_slots.proofs.slots.image_from.Goals as goal
 
 pub overflow_cast-result : goal.overflow_cast-result

@@ -1,6 +1,5 @@
 -- The chain of tests is the definition's, link by link.
 use Rattle.settings_slots.specs.Slots.{image_holds}
-use borrow.Author.Rules.{rules}
 use Rattle.settings_slots.proofs.slots.image_holds.Goals as goal
 
 pub returns : goal.returns

@@ -5,7 +5,6 @@ use lib.ListN.{get_or}
 use Rattle.settings_slots.specs.Slots.{predictor_from}
 use Rattle.settings_slots.proofs.Fields.{where_set}
 use Rattle.settings_slots.proofs.Stores.{kept}
-use borrow.Author.Rules.{rules}
 use Rattle.settings_slots.proofs.slots.predictor_from.Goals as goal
 
 pub returns : goal.returns

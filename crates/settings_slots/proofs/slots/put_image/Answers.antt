@@ -1,5 +1,4 @@
 -- The stores, one behind the other, are the slots of the part.
-use mathlib.Core.Path.{refl}
 use native.Mathlib.Omega.{arith}
 use lib.ListN.{length-set}
 use Rattle.settings_slots.specs.Storing.{image_slots}

@@ -4,7 +4,6 @@ use mathlib.Core.List.{◌++◌}
 use Rattle.settings_slots.specs.Slots.{slots_of}
 use Rattle.settings_slots.specs.Storing.{image_slots, predictor_slots, coder_slots}
 use Rattle.settings_slots.proofs.Stores.{next}
-use borrow.Author.Rules.{rules}
 use Rattle.settings_slots.proofs.slots.put_settings.Goals as goal
 
 pub returns : goal.returns

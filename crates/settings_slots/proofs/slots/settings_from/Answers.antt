@@ -1,6 +1,5 @@
 -- Part by part.
 use Rattle.settings_slots.specs.Slots.{settings_from}
-use borrow.Author.Rules.{rules}
 use Rattle.settings_slots.proofs.slots.settings_from.Goals as goal
 
 pub returns : goal.returns

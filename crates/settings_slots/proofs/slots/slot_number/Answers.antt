@@ -1,15 +1,14 @@
 -- The size of a number of 32 bits fits them without its sign.
-use mathlib.Core.Path.{◌≡◌, ◌∙◌, ap}
+use mathlib.Core.Path.{◌≡◌}
 use Prim.Native.Nat.{◌≤◌, ◌^◌}
 use native.Mathlib.Omega.{arith}
 use lib.IntN.{ℤ, pos, nat_abs}
 use lib.ListN.{get_or}
-use mir.Syntax.{w32, w64}
-use mir.Val.{SFits, to_z, of_z}
+use mir.Syntax.{w32}
+use mir.Val.{SFits}
 use mir.Facts.{to_z-of_z}
 use Rattle.integers.specs.Parts.{zs, abs_parts}
 use Rattle.integers.specs.Widths.{ok, wide}
-use borrow.Author.Rules.{rules}
 use Rattle.settings_slots.proofs.slots.slot_number.Goals as goal
 
 size_fits : (z : ℤ) → SFits w32 z → nat_abs z ≤ 2 ^ 31

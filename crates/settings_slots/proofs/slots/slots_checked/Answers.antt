@@ -2,7 +2,6 @@
 use borrow.Author.Tests.{lt-ltb, le-ltb}
 use Rattle.refusals.specs.Tests.{first_hit}
 use Rattle.settings_slots.specs.Slots.{slots_checked}
-use borrow.Author.Rules.{rules}
 use Rattle.settings_slots.proofs.slots.slots_checked.Goals as goal
 
 pub returns-then-l-lt-SLOTS : goal.returns-then-l-lt-SLOTS

@@ -1,5 +1,4 @@
 -- Each arm is the condition's.
-use borrow.Author.Rules.{rules}
 use Rattle.settings_slots.proofs.slots.used_number.Goals as goal
 
 pub returns-then-used : goal.returns-then-used
