@@ -20,7 +20,7 @@ use Rattle.settings.specs.Range.{in_range}
 use Rattle.predictor.specs.Differences.{Image, index_of, image_of}
 use Rattle.predictor.specs.Mapping.{mapped, unmapped}
 use Rattle.predictor.specs.Band.{scaled_at, mapped_at}
-use Rattle.predictor.specs.Causality.{scaled_at_same, mapped_at_same}
+use Rattle.predictor.proofs.Causality.{scaled_at_same, mapped_at_same}
 use Rattle.predictor.specs.PredictionLaws.{Predicted, scaled_at_predicted}
 use Rattle.predictor.specs.MappingLaws.{mapped_unmapped, unmapped_mapped, mapped_small, unmapped_range}
 use Rattle.coder.specs.Statistics.{statistics_at}

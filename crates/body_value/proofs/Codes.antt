@@ -15,7 +15,7 @@ use Rattle.bitstream.specs.declared.read.Got.TheVariants.{Value, Short, Bad}
 use Rattle.bitstream.specs.Stream.{Parsed, ok, bits, field}
 use Rattle.bitstream.specs.Writer.{Put}
 use Rattle.bitstream.specs.Reader.{found, Means}
-use Rattle.bitstream.specs.Laws.{found_means}
+use Rattle.bitstream.proofs.Laws.{found_means}
 use Rattle.bitstream.proofs.Writes.{put_as}
 use Rattle.settings.specs.declared.Settings.{Settings}
 use Rattle.coder.specs.declared.Statistics.{Statistics}

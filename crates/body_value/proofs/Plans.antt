@@ -10,7 +10,7 @@ use lib.Pow.{pow_pos, pow_mono}
 use mir.Syntax.{w32}
 use mir.Val.{SFits}
 use borrow.Author.Tests.{le-leb, lt-leb}
-use Rattle.integers.specs.Laws.{le_parts, one0, abs_parts, sz_abs, sz_fits}
+use Rattle.integers.proofs.Laws.{le_parts, one0, abs_parts, sz_abs, sz_fits}
 use Rattle.settings.specs.declared.Settings.{Settings}
 use Rattle.settings.specs.Legal.{settings_legal, limited}
 use Rattle.settings.specs.Limits.{most_samples}

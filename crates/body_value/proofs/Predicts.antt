@@ -23,11 +23,12 @@ use Rattle.predictor.specs.Band.{scaled_with, weights_behind}
 use Rattle.predictor.specs.Each.{each_map}
 use Rattle.predictor.specs.Lengths.{components_at_length, stepped_weights_length}
 use Rattle.predictor.specs.WeightLaws.{InWeights, weight_size, stepped_weights_range}
-use Rattle.predictor.specs.SizeLaws.{Size, components_small, sum_small}
+use Rattle.predictor.specs.SizeLaws.{Size}
+use Rattle.predictor.proofs.SizeLaws.{components_small, sum_small}
 use Rattle.predictor.specs.PredictionLaws.{Scaled, scaled_with_range, scaled_predicted}
 use Rattle.predictor.specs.Inputs.{all_ranged, inside, area_small}
 use Rattle.predictor.specs.Inputs as inputs
-use Rattle.predictor.specs.AskLaws.{scaled_small, sized_asks, ranged_asks, sample_asks, delta_asks}
+use Rattle.predictor.proofs.AskLaws.{scaled_small, sized_asks, ranged_asks, sample_asks, delta_asks}
 use Rattle.predictor.specs.Asks as asks
 use Rattle.predictor.specs.Asks.{Pairs, Terms, Stepping, Schedule, Sized, Ranged}
 use Rattle.body_value.specs.declared.plan.Plan.{Plan}

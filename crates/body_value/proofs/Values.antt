@@ -24,7 +24,7 @@ use Rattle.predictor.specs.Mapping.{mapped, unmapped}
 use Rattle.predictor.specs.MappingLaws.{mapped_unmapped}
 use Rattle.predictor.specs.Band.{scaled_with, weights_behind, weights_at, scaled_at, mapped_at}
 use Rattle.predictor.specs.Causality as causality
-use Rattle.predictor.specs.Causality.{components_at_same, scaled_with_same, weights_at_same, scaled_at_same, mapped_at_same}
+use Rattle.predictor.proofs.Causality.{components_at_same, scaled_with_same, weights_at_same, scaled_at_same, mapped_at_same}
 use Rattle.predictor.specs.Inputs as inputs
 use Rattle.predictor.specs.Asks as asks
 use Rattle.coder.specs.declared.Statistics.{Statistics}

@@ -16,7 +16,7 @@ use Rattle.settings.specs.declared.Settings.{Settings}
 use Rattle.settings.specs.Lists.{join}
 use Rattle.predictor.specs.Differences.{Image}
 use Rattle.predictor.specs.Band.{mapped_at}
-use Rattle.predictor.specs.Causality.{weights_at_same, mapped_at_same}
+use Rattle.predictor.proofs.Causality.{weights_at_same, mapped_at_same}
 use Rattle.coder.specs.StatisticsLaws.{statistics_same}
 use Rattle.body.specs.Order.{Place, column_of, row_of}
 use Rattle.body_value.specs.declared.plan.Plan.{Plan}

@@ -11,13 +11,13 @@ use lib.Seq.{drop-drop}
 use lib.Dec.{eqb}
 use borrow.Author.Tests.{eqb-true, eqb-false, lt-ltb, le-ltb}
 use Rattle.bitstream.specs.Stream.{bits, zeros, filling}
-use Rattle.bitstream.specs.Laws.{bits_zero, bits_inj, filling_whole}
+use Rattle.bitstream.proofs.Laws.{bits_zero, bits_inj, filling_whole}
 use Rattle.bitstream.specs.Reader.{Sees}
 use Rattle.header.specs.Fields.{same}
 use Rattle.header.specs.FieldLaws.{same_true, same_refl}
 use Rattle.closing.specs.declared.ending.Ending.TheVariants.{Whole, TooShort, Behind}
 use Rattle.closing.specs.Ending.{end_of}
-use Rattle.bitstream.specs.Laws.{whole_bytes}
+use Rattle.bitstream.proofs.Laws.{whole_bytes}
 
 -- the w bits of a number below 2^w
 bits_same : (w v : ℕ) → v < 2 ^ w → eqb v 0 ≡ same (bits w v) (zeros w)

@@ -10,7 +10,7 @@ use Rattle.std.proofs.Math.Dec.{ltb}
 use Rattle.std.proofs.Math.Pow.{split, high, low}
 use Rattle.std.proofs.Math.ListN.{length, length-replicate}
 use Rattle.bitstream.specs.Stream.{bits, zeros, Parsed, ok, short, bad, field}
-use Rattle.bitstream.specs.Laws.{length_bits, bits_low, field_bits, field_ok, absurd_path}
+use Rattle.bitstream.proofs.Laws.{length_bits, bits_low, field_bits, field_ok, absurd_path}
 use Rattle.coder.specs.Codeword.{codeword, Run, one, full, out, longer, run, and_then, plain, escaped, behind, parse}
 
 -- ---- the zeros ahead

@@ -9,7 +9,7 @@ use lib.IntN.{ℤ}
 use lib.ListN.{length, drop, length-replicate}
 use Rattle.bitstream.specs.declared.write.Tail.{Tail}
 use Rattle.bitstream.specs.Stream.{Bytes, zeros, filling, filled, pack}
-use Rattle.bitstream.specs.Laws.{length_pack, filling_lt}
+use Rattle.bitstream.proofs.Laws.{length_pack, filling_lt}
 use Rattle.bitstream.specs.Writer.{Holds, Put, Done}
 use Rattle.bitstream.proofs.Writes.{further, put_as, put_then, put_filled, done_file}
 use Rattle.settings.specs.declared.Settings.{Settings}

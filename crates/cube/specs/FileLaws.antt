@@ -7,7 +7,7 @@ use mathlib.Core.List.{List, [], ◌++◌, append_assoc}
 use Rattle.std.proofs.Math.ListN.{length, length-replicate}
 use borrow.Author.Tests.{le-ltb, not-false}
 use Rattle.bitstream.specs.Stream.{Bytes, pack, unpack, zeros, filling, filled}
-use Rattle.bitstream.specs.Laws.{unpack_pack, pack_unpack, filled_whole, whole_bytes}
+use Rattle.bitstream.proofs.Laws.{unpack_pack, pack_unpack, filled_whole, whole_bytes}
 use Rattle.refusals.specs.declared.Refusal.{Refusal}
 use Rattle.refusals.specs.Reading.{Read, got, refused, and_then}
 use Rattle.refusals.specs.ReadingLaws.{passes, no_test, passed, sequenced}

@@ -20,7 +20,8 @@ use Rattle.coder.specs.StatisticsLaws.{Tame, Begins, statistics_tame}
 use Rattle.header.specs.Write.{header}
 use Rattle.body.specs.Order.{Place, band_sequential, band_interleaved, order}
 use Rattle.body.specs.Body.{codes, body}
-use Rattle.body.specs.Reach.{SameBands, SameRows, mapped_of_bands, mapped_of_rows, Begin, bodies_of_bands, bodies_of_rows}
+use Rattle.body.specs.Reach.{SameBands, SameRows, Begin}
+use Rattle.body.proofs.Reach.{mapped_of_bands, mapped_of_rows, bodies_of_bands, bodies_of_rows}
 use Rattle.cube.specs.declared.Packed.TheVariants as packing
 use Rattle.cube.specs.File.{file}
 use Rattle.cube.specs.Areas.{Packs}

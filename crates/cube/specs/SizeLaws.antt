@@ -1,7 +1,7 @@
 -- How long a file can be: a sample takes at most 48 bits, a band's tables at most 50 bytes, and the rest less than 32 bytes.
 use Rattle.std.specs.Prelude.{◌≡◌, true, List, [], ◌∷◌, ◌++◌, suc, ◌+◌, ◌*◌, ◌≤◌, ℤ, length}
 use Rattle.std.proofs.Common.{mul-suc, mul-le-mul_right, arith, length-append}
-use Rattle.bitstream.specs.Laws.{filled_lt, length_pack}
+use Rattle.bitstream.proofs.Laws.{filled_lt, length_pack}
 use Rattle.settings.specs.declared.Settings.{Settings}
 use Rattle.settings.specs.Legal.{settings_legal, limited, sample_count}
 use Rattle.settings.specs.Limits.{most_samples, most_body_bits, most_file_bytes}

@@ -9,7 +9,7 @@ use native.Mathlib.Omega.{arith}
 use lib.ListN.{length, get_or}
 use lib.Pow.{pow_pos}
 use Rattle.bitstream.specs.Stream.{bits}
-use Rattle.bitstream.specs.Laws.{bits_low}
+use Rattle.bitstream.proofs.Laws.{bits_low}
 use Rattle.bitstream.specs.Writer.{Put}
 use Rattle.bitstream.specs.declared.write.Tail.{Tail}
 use Rattle.bitstream.proofs.Writes.{put_then, put_as, put_none}

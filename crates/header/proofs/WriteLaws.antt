@@ -12,7 +12,7 @@ use mir.Syntax.{w32}
 use mir.Val.{SFits}
 use lib.ListN.{length}
 use Rattle.bitstream.specs.Stream.{bits, zeros, filling, filled}
-use Rattle.bitstream.specs.Laws.{bits_zero, length_bits}
+use Rattle.bitstream.proofs.Laws.{bits_zero, length_bits}
 use Rattle.bitstream.specs.Writer.{Put}
 use Rattle.bitstream.specs.declared.write.Tail.{Tail}
 use Rattle.bitstream.proofs.Writes.{put_then, put_as}

@@ -5,7 +5,7 @@ use Rattle.std.specs.Bool.{beq}
 use Rattle.std.proofs.Math.Bool.{and-eq-true_iff}
 use Rattle.std.proofs.lemmas.Bool.{false≢true}
 use Rattle.bitstream.specs.Stream.{bits, number}
-use Rattle.bitstream.specs.Laws.{length_bits, bits_low, number_bits, bits_number, number_lt}
+use Rattle.bitstream.proofs.Laws.{length_bits, bits_low, number_bits, bits_number, number_lt}
 use Rattle.header.specs.Fields.{Field, fields, split, same}
 
 -- ---- the same bits

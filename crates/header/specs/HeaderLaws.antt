@@ -2,7 +2,7 @@
 use Rattle.std.specs.Prelude.{◌≡◌, refl, Bool, true, false, cond, ◌&&◌, List, [], ◌∷◌, ◌++◌, ℕ, ◌*◌, ◌%◌, ◌≤◌, ℤ, length}
 use Rattle.std.proofs.Common.{sym, ap, ◌∙◌, append_assoc, arith, length-append}
 use Rattle.bitstream.specs.Stream.{bits, filled}
-use Rattle.bitstream.specs.Laws.{filled_whole, absurd_path}
+use Rattle.bitstream.proofs.Laws.{filled_whole, absurd_path}
 use Rattle.refusals.specs.Reading.{Read, got, refused, and_then}
 use Rattle.settings.specs.declared.Image.{Image}
 use Rattle.settings.specs.declared.Predictor.{Predictor}

@@ -5,7 +5,7 @@ use Rattle.std.proofs.Math.Bool.{and-eq-true_iff}
 use Rattle.std.proofs.lemmas.Bool.{false≢true, eqb-false, not-false}
 use Rattle.std.proofs.lemmas.List.{length-replicate}
 use Rattle.bitstream.specs.Stream.{filling, filled}
-use Rattle.bitstream.specs.Laws.{absurd_path}
+use Rattle.bitstream.proofs.Laws.{absurd_path}
 use Rattle.refusals.specs.declared.Refusal.TheVariants.{EndsInHeader, IllegalField, HouseLimit, BlockCoder}
 use Rattle.refusals.specs.declared.Checked.{Checked}
 use Rattle.refusals.specs.declared.Checked.TheVariants.{Passed, Refused}

@@ -3,7 +3,7 @@ use Rattle.std.specs.Prelude.{◌≡◌, refl, Bool, true, false, cond, List, []
 use Rattle.std.proofs.Common.{ap, ◌∙◌, mul-le-mul, add-one, arith, length-append}
 use Rattle.std.proofs.lemmas.List.{length-replicate}
 use Rattle.bitstream.specs.Stream.{filled}
-use Rattle.bitstream.specs.Laws.{filling_lt}
+use Rattle.bitstream.proofs.Laws.{filling_lt}
 use Rattle.settings.specs.declared.Image.{Image}
 use Rattle.settings.specs.declared.Predictor.{Predictor}
 use Rattle.settings.specs.declared.Coder.{Coder}

@@ -10,7 +10,7 @@ use Rattle.std.proofs.Math.IntN.{nat_abs}
 use Rattle.std.specs.Int.Signed.{le_z, lt_z}
 use Rattle.std.proofs.Math.Seq.{take_all}
 use Rattle.bitstream.specs.Stream.{bits}
-use Rattle.bitstream.specs.Laws.{length_bits, number_bits, bits_number}
+use Rattle.bitstream.proofs.Laws.{length_bits, number_bits, bits_number}
 use Rattle.settings.specs.declared.Predictor.{Predictor}
 use Rattle.settings.specs.declared.Settings.{Settings}
 use Rattle.settings.specs.Lists.{join, one, sum_below}

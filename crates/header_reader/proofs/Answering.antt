@@ -9,7 +9,7 @@ use borrow.Author.Tests.{ltb-false, lt-ltb, le-ltb, eq-eqb, ne_eqb}
 use lib.Dec.{ltb, eqb}
 use lib.ListN.{length, drop, length-drop}
 use Rattle.bitstream.specs.Stream.{unpack}
-use Rattle.bitstream.specs.Laws.{length_unpack, absurd_path}
+use Rattle.bitstream.proofs.Laws.{length_unpack, absurd_path}
 use Rattle.refusals.specs.declared.Refusal.{Refusal}
 use Rattle.refusals.specs.declared.Refusal.TheVariants.{EndsInHeader, IllegalField, HouseLimit, BlockCoder}
 use Rattle.refusals.specs.Tests.{Test, ◌⇒◌, first_hit}

@@ -5,7 +5,7 @@ use mathlib.Core.List.{List, []}
 use Prim.Native.Nat.{ℕ, ◌+◌}
 use lib.ListN.{drop}
 use Rattle.bitstream.specs.Stream.{filled}
-use Rattle.bitstream.specs.Laws.{absurd_path}
+use Rattle.bitstream.proofs.Laws.{absurd_path}
 use Rattle.refusals.specs.declared.Refusal.{Refusal}
 use Rattle.refusals.specs.declared.Checked.TheVariants as checked
 use Rattle.refusals.specs.Reading.{Read, got, refused}

@@ -11,7 +11,7 @@ use lib.ListN.{length, take, drop, length-drop}
 use lib.Seq.{take-add, drop-drop, length-take-le}
 use lib.Pow.{pow_pos}
 use Rattle.bitstream.specs.Stream.{bits, number, zeros, filling, filled}
-use Rattle.bitstream.specs.Laws.{number_bits, bits_number, bits_zero}
+use Rattle.bitstream.proofs.Laws.{number_bits, bits_number, bits_zero}
 use Rattle.refusals.specs.declared.Refusal.TheVariants.{EndsInHeader}
 use Rattle.refusals.specs.Reading.{got, refused}
 use Rattle.settings.specs.declared.Image.{Image}

@@ -7,7 +7,7 @@ use native.Mathlib.Omega.{arith}
 use lib.ListN.{length, take, drop, length-append, length-drop}
 use lib.Seq.{take-take, drop-drop, drop_at, length-take-le}
 use Rattle.bitstream.specs.Stream.{number, filled}
-use Rattle.bitstream.specs.Laws.{take_drop}
+use Rattle.bitstream.proofs.Laws.{take_drop}
 use Rattle.refusals.specs.Reading.{got}
 use Rattle.settings.specs.declared.Image.{Image}
 use Rattle.settings.specs.declared.Predictor.{Predictor}

@@ -15,7 +15,7 @@ use mir.Syntax.{w32}
 use mir.Val.{SFits, to_z, of_z}
 use mir.Facts.{to_z_pos, to_z-of_z}
 use Rattle.bitstream.specs.Stream.{number, zeros, filling, filled}
-use Rattle.bitstream.specs.Laws.{absurd_path}
+use Rattle.bitstream.proofs.Laws.{absurd_path}
 use Rattle.refusals.specs.Reading.{Read, got}
 use Rattle.settings.specs.declared.Settings.{Settings}
 use Rattle.settings.specs.ListLaws.{sum_below_holds}

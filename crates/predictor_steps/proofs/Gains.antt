@@ -10,7 +10,7 @@ use lib.Seq.{get_or-set_other, ext_get_or}
 use lib.IntN.{ℤ, pos, negsuc, nat_abs, ◌+ℤ◌, ◌-ℤ◌, ◌*ℤ◌}
 use lib.Signed.{le_z}
 use Rattle.integers.specs.Integer.{floor_div, clip}
-use Rattle.integers.specs.Laws.{zs, sub, neg, le_z_true, le_z_false}
+use Rattle.integers.proofs.Laws.{zs, sub, neg, le_z_true, le_z_false}
 use Rattle.predictor.specs.Weights.{lowest_weight, highest_weight}
 use Rattle.predictor.specs.WeightUpdate.{gain, weight_step, stepped_weights}
 use Rattle.predictor.specs.Lengths.{stepped_weights_length}

@@ -9,7 +9,7 @@ use lib.Seq.{drop-cons}
 use lib.IntN.{ℤ, pos, ◌+ℤ◌, ◌*ℤ◌, +ℤ_assoc}
 use mir.Syntax.{w32, w64}
 use mir.Val.{SFits}
-use Rattle.integers.specs.Laws.{P, N, zs, add, abs_parts, mul_bound}
+use Rattle.integers.proofs.Laws.{P, N, zs, add, abs_parts, mul_bound}
 use Rattle.predictor.specs.Prediction.{inner}
 use Rattle.predictor.specs.Each.{Each}
 use Rattle.predictor.specs.SizeLaws.{Size}

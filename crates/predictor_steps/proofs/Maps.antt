@@ -8,7 +8,7 @@ use lib.Dec.{ltb}
 use lib.IntN.{ℤ, pos, negsuc, nat_abs, ◌+ℤ◌, ◌-ℤ◌}
 use lib.Signed.{le_z, lt_z, ◌≤ℤ◌}
 use Rattle.integers.specs.Integer.{oriented}
-use Rattle.integers.specs.Laws.{zs, add, sub, one0, abs_parts, lt_z_true, lt_z_false}
+use Rattle.integers.proofs.Laws.{zs, add, sub, one0, abs_parts, lt_z_true, lt_z_false}
 use Rattle.predictor.specs.Mapping.{theta, map_residual, unmap_residual, unmapped_by}
 use Rattle.predictor.specs.MappingLaws.{unmapped_by_range}
 use Rattle.predictor.specs.Asks.{Ranged}

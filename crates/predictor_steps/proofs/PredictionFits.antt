@@ -4,7 +4,7 @@ use native.Mathlib.Omega.{arith}
 use lib.IntN.{ℤ, pos, nat_abs, ◌+ℤ◌, ◌-ℤ◌, ◌*ℤ◌}
 use mir.Syntax.{w32, w64}
 use mir.Val.{SFits}
-use Rattle.integers.specs.Laws.{P, N, wide, abs_parts, Sz, sz_of, sz_abs, sz_add, sz_sub, sz_mul, sz_lit, sz_fits}
+use Rattle.integers.proofs.Laws.{P, N, wide, abs_parts, Sz, sz_of, sz_abs, sz_add, sz_sub, sz_mul, sz_lit, sz_fits}
 use Rattle.predictor.specs.Asks.{Sample}
 
 -- what the local sum lies above four middles

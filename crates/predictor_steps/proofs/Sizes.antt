@@ -14,7 +14,7 @@ use Rattle.integers.specs.Integer.{floor_div, oriented}
 use Rattle.integers.specs.Laws.{P, N, neg, abs_parts, fits_parts}
 use Rattle.predictor.specs.Prediction.{inner}
 use Rattle.predictor.specs.WeightUpdate.{gain, weight_step}
-use Rattle.predictor.specs.SizeLaws.{inner_size, gain_size}
+use Rattle.predictor.proofs.SizeLaws.{inner_size, gain_size}
 use Rattle.predictor.specs.WeightLaws.{weight_size, weight_step_range}
 use Rattle.predictor.specs.Asks.{Pairs}
 

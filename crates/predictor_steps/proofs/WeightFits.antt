@@ -5,7 +5,7 @@ use native.Mathlib.Omega.{arith}
 use lib.IntN.{ℤ, pos, nat_abs, ◌+ℤ◌, ◌-ℤ◌, ◌*ℤ◌}
 use mir.Syntax.{w32, w64}
 use mir.Val.{SFits}
-use Rattle.integers.specs.Laws.{P, N, zs, wide, add, sub, one0, abs_parts, mul_bound, Sz, sz_of, sz_abs, sz_add, sz_sub, sz_mul, sz_lit, sz_fits}
+use Rattle.integers.proofs.Laws.{P, N, zs, wide, add, sub, one0, abs_parts, mul_bound, Sz, sz_of, sz_abs, sz_add, sz_sub, sz_mul, sz_lit, sz_fits}
 use Rattle.predictor_steps.proofs.Sizes.{power_small}
 
 -- a step, and the ends of the range

@@ -13,7 +13,8 @@ use lib.ListN.{get_or}
 use Rattle.predictor.specs.LocalSum.{Neighbours, Position, two, four, neighbours_at, position_at, local_sum, sum_at}
 use Rattle.predictor.specs.Differences.{difference, directional, central_at}
 use Rattle.predictor.specs.Each.{Each}
-use Rattle.predictor.specs.SizeLaws.{Around, local_sum_size}
+use Rattle.predictor.specs.SizeLaws.{Around}
+use Rattle.predictor.proofs.SizeLaws.{local_sum_size}
 use Rattle.predictor.specs.Asks.{Sample, band_from}
 use Rattle.predictor_sums.specs.Fetch.{Fetching, fetched}
 use Rattle.predictor_sums.specs.Asks.{Window, Narrow, centre, inside}

@@ -1,7 +1,7 @@
 -- `integers::floor_shift` meets its contract: a shift that copies the sign rounds down, and what it leaves fits.
 use Prim.Native.Nat.{◌^◌}
 use mir.Facts.{to_z-of_z}
-use Rattle.integers.specs.Floors.{shr_floor, floor_fits}
+use Rattle.integers.proofs.Floors.{shr_floor, floor_fits}
 use Rattle.integers.proofs.floor_shift.Goals as goal
 
 pub returns : goal.returns

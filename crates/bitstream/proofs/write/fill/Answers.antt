@@ -5,7 +5,7 @@ use native.Mathlib.Nat.{mod-lt, le_of_lt}
 use native.Mathlib.Omega.{arith}
 use lib.ListN.{length}
 use lib.Pow.{pow_pos}
-use Rattle.bitstream.specs.Laws.{length_bits, filling_lt}
+use Rattle.bitstream.proofs.Laws.{length_bits, filling_lt}
 use Rattle.bitstream.specs.Stream.{bits, filling}
 use Rattle.bitstream.proofs.Writes.{put_as, put_then, zeros_two}
 use Rattle.bitstream.proofs.write.fill.Goals as goal

@@ -7,7 +7,7 @@ use lib.Signed.{le_z}
 use mir.Syntax.{w32}
 use mir.Val.{SFits}
 use mir.Facts.{to_z-of_z}
-use Rattle.integers.specs.Laws.{sz_abs, sz_fits}
+use Rattle.integers.proofs.Laws.{sz_abs, sz_fits}
 use Rattle.predictor.specs.WeightUpdate.{scaled_error, exponent_by}
 use Rattle.body_value.proofs.Plans.{legal, vmin_fits, vmax_fits}
 use Rattle.body_value.proofs.Predicts.{n_few, ws_long, us_long, schedule, stepping, unlearnt, learnt_by}

@@ -6,7 +6,7 @@ use mathlib.Core.Bool.{true, false}
 use Prim.Native.Nat.{◌*◌}
 use lib.ListN.{length}
 use Rattle.bitstream.specs.Stream.{unpack}
-use Rattle.bitstream.specs.Laws.{filling_lt, length_unpack}
+use Rattle.bitstream.proofs.Laws.{filling_lt, length_unpack}
 use Rattle.closing.proofs.Endings.{whole, short_end, long_end, ends}
 use Rattle.closing.proofs.ending.end_of.Goals as goal
 

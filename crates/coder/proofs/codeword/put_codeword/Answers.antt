@@ -5,7 +5,7 @@ use native.Mathlib.Omega.{arith}
 use lib.ListN.{length}
 use lib.Pow.{pow_pos}
 use Rattle.bitstream.specs.Stream.{bits}
-use Rattle.bitstream.specs.Laws.{length_bits}
+use Rattle.bitstream.proofs.Laws.{length_bits}
 use Rattle.bitstream.proofs.Writes.{put_as, put_then}
 use Rattle.coder.proofs.Codewords.{one_pos, tag_lt, codeword_one, codeword_two, codeword_escape}
 use borrow.Author.Rules.{rules}

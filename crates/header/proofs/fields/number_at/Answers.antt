@@ -3,7 +3,7 @@ use mathlib.Core.Path.{◌≡◌, ◌∙◌}
 use Prim.Native.Nat.{◌+◌}
 use lib.ListN.{take, drop}
 use Rattle.bitstream.specs.Stream.{number, unpack}
-use Rattle.bitstream.specs.Laws.{absurd_path}
+use Rattle.bitstream.proofs.Laws.{absurd_path}
 use Rattle.bitstream.specs.declared.read.Got.TheVariants.{Value}
 use Rattle.header.proofs.Numbers.{found_there}
 use Rattle.header.proofs.fields.number_at.Goals as goal

@@ -3,7 +3,7 @@ use native.Mathlib.Omega.{arith}
 use lib.ListN.{get_or}
 use lib.Pow.{pow_pos}
 use Rattle.bitstream.proofs.Writes.{put_as}
-use Rattle.bitstream.specs.Laws.{length_bits}
+use Rattle.bitstream.proofs.Laws.{length_bits}
 use Rattle.header.proofs.Joins.{joins_begin, joins_more, joins_all, fields_join, reduced, reduced_lt}
 use Rattle.header.proofs.Numbers.{Width, fitting_at}
 use Rattle.header.proofs.fields.put_fields.Goals as goal

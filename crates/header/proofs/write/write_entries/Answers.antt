@@ -9,7 +9,7 @@ use mir.Syntax.{w32}
 use mir.Val.{SFits}
 use borrow.Author.Rules.{sfits_of}
 use Rattle.bitstream.proofs.Writes.{put_as}
-use Rattle.bitstream.specs.Laws.{length_bits}
+use Rattle.bitstream.proofs.Laws.{length_bits}
 use Rattle.bitstream.specs.Stream.{bits}
 use Rattle.header.proofs.Joins.{joins_begin, joins_more, joins_all}
 use Rattle.header.proofs.WriteLaws.{facts, accumulator_at}

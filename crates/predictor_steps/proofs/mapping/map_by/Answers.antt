@@ -3,7 +3,7 @@ use mathlib.Core.Path.{◌≡◌, sym}
 use native.Mathlib.Omega.{arith}
 use lib.IntN.{nat_abs}
 use mir.Facts.{to_z-of_z}
-use Rattle.integers.specs.Laws.{zs, abs_parts}
+use Rattle.integers.proofs.Laws.{zs, abs_parts}
 use Rattle.predictor_steps.proofs.Maps.{far, even_below, even_above, odd_above, odd_below}
 use Rattle.predictor_steps.proofs.mapping.map_by.Goals as goal
 

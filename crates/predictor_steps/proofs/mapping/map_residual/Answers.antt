@@ -8,7 +8,7 @@ use mir.Syntax.{w64}
 use mir.Val.{SFits}
 use mir.Facts.{to_z-of_z}
 use Rattle.integers.specs.Integer.{floor_div, is_even}
-use Rattle.integers.specs.Laws.{zs, ok, wide, sub, one0, abs_parts, floor}
+use Rattle.integers.proofs.Laws.{zs, ok, wide, sub, one0, abs_parts, floor}
 use Rattle.predictor.specs.Mapping.{theta, map_residual, mapped_by}
 use Rattle.predictor_steps.proofs.Maps.{map_le, theta_le}
 use Rattle.predictor_steps.proofs.mapping.map_residual.Goals as goal

@@ -1,6 +1,6 @@
 -- `predictor_steps::mapping::predicted` meets its contract: the signed shift rounds down.
 use mir.Facts.{to_z-of_z}
-use Rattle.integers.specs.Laws.{floor_fits, shr_floor}
+use Rattle.integers.proofs.Laws.{floor_fits, shr_floor}
 use Rattle.predictor_steps.proofs.mapping.predicted.Goals as goal
 
 pub returns : goal.returns

@@ -5,7 +5,7 @@ use lib.IntN.{nat_abs, ◌-ℤ◌}
 use mir.Syntax.{w64}
 use mir.Val.{SFits}
 use mir.Facts.{to_z-of_z}
-use Rattle.integers.specs.Laws.{zs, sub, abs_parts}
+use Rattle.integers.proofs.Laws.{zs, sub, abs_parts}
 use Rattle.predictor.specs.Mapping.{theta}
 use Rattle.predictor_steps.proofs.mapping.theta.Goals as goal
 

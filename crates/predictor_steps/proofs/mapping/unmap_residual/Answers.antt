@@ -9,7 +9,7 @@ use mir.Syntax.{w32, w64}
 use mir.Val.{SFits}
 use mir.Facts.{to_z-of_z}
 use Rattle.integers.specs.Integer.{floor_div, is_even}
-use Rattle.integers.specs.Laws.{zs, ok, wide, sub, one0, abs_parts, floor}
+use Rattle.integers.proofs.Laws.{zs, ok, wide, sub, one0, abs_parts, floor}
 use Rattle.predictor.specs.Mapping.{theta, unmap_residual, unmapped_by}
 use Rattle.predictor_steps.proofs.Maps.{theta_le, unmapped_in}
 use Rattle.predictor_steps.proofs.mapping.unmap_residual.Goals as goal

@@ -7,7 +7,7 @@ use lib.IntN.{pos, +ℤ_idl, +ℤ_idr}
 use mir.Syntax.{w32, w64}
 use mir.Val.{SFits, to_z}
 use mir.Facts.{to_z-of_z}
-use Rattle.integers.specs.Laws.{zs}
+use Rattle.integers.proofs.Laws.{zs}
 use Rattle.predictor.specs.Prediction.{inner}
 use Rattle.predictor_steps.proofs.InnerSteps.{small_at, Turn, turn, step}
 use Rattle.predictor_steps.proofs.prediction.inner.Goals as goal

@@ -6,7 +6,7 @@ use mir.Syntax.{w64}
 use mir.Val.{SFits}
 use mir.Facts.{to_z-of_z}
 use Rattle.integers.specs.Integer.{floor_div, clip, wrap}
-use Rattle.integers.specs.Laws.{P, N, zs, ok, add, abs_parts}
+use Rattle.integers.proofs.Laws.{P, N, zs, ok, add, abs_parts}
 use Rattle.predictor.specs.LocalSum.{two, four}
 use Rattle.predictor.specs.Prediction.{scaled_by}
 use Rattle.predictor_steps.proofs.Sizes.{inner_small}

@@ -7,7 +7,7 @@ use lib.IntN.{ℤ, pos, ◌+ℤ◌, ◌*ℤ◌}
 use mir.Syntax.{w32, w64}
 use mir.Val.{SFits, to_z}
 use mir.Facts.{to_z-of_z, to_z_pos}
-use Rattle.integers.specs.Laws.{ok, sz_abs, sz_fits}
+use Rattle.integers.proofs.Laws.{ok, sz_abs, sz_fits}
 use Rattle.predictor.specs.Weights.{custom_weight}
 use Rattle.predictor_steps.proofs.Sizes.{power_small}
 use Rattle.predictor_steps.proofs.WeightFits.{Custom, custom_fits}

@@ -8,7 +8,7 @@ use mir.Syntax.{w64}
 use mir.Val.{SFits, to_z}
 use mir.Facts.{to_z-of_z, to_z_pos}
 use Rattle.integers.specs.Integer.{floor_div, clip}
-use Rattle.integers.specs.Laws.{zs, ok, wide, sub, one0, abs_parts, clip_in, Sz, sz_abs, sz_add, sz_fits, sz_floor}
+use Rattle.integers.proofs.Laws.{zs, ok, wide, sub, one0, abs_parts, clip_in, Sz, sz_abs, sz_add, sz_fits, sz_floor}
 use Rattle.settings.specs.Limits.{most_samples}
 use Rattle.predictor.specs.WeightUpdate.{exponent_by}
 use Rattle.predictor.specs.Asks.{Schedule}

@@ -6,7 +6,7 @@ use lib.IntN.{pos, nat_abs, ◌+ℤ◌, ◌-ℤ◌, ◌*ℤ◌}
 use mir.Syntax.{w32, w64}
 use mir.Val.{SFits}
 use mir.Facts.{to_z-of_z}
-use Rattle.integers.specs.Laws.{P, N, zs, ok, add, sub, abs_parts, shr_floor, floor_fits}
+use Rattle.integers.proofs.Laws.{P, N, zs, ok, add, sub, abs_parts, shr_floor, floor_fits}
 use Rattle.predictor_steps.proofs.Gains.{gain_right, gain_left}
 use Rattle.predictor_steps.proofs.WeightFits.{sum_fits, product_small, turned_small}
 use Rattle.predictor_steps.proofs.weights.gain.Goals as goal

@@ -7,7 +7,7 @@ use mir.Syntax.{w32, w64}
 use mir.Val.{SFits}
 use mir.Facts.{to_z-of_z}
 use Rattle.integers.specs.Integer.{clip, oriented}
-use Rattle.integers.specs.Laws.{ok, wide, sz_abs, sz_fits}
+use Rattle.integers.proofs.Laws.{ok, wide, sz_abs, sz_fits}
 use Rattle.predictor.specs.Weights.{lowest_weight, highest_weight}
 use Rattle.predictor.specs.WeightUpdate.{gain, weight_step}
 use Rattle.predictor_steps.proofs.Gains.{ends}
