@@ -5,7 +5,7 @@ pub fn clear_bytes(area: &mut [u8])
     ensures { area.new ≡ replicate (length area.old) 0 }
 {
     let mut at = 0;
-    while at < area.len() {
+    'bytes: while at < area.len() {
         area[at] = 0;
         at += 1;
     }

@@ -39,7 +39,7 @@ returns-then-not-counted c =
     let legal : settings_legal c.args.s ≡ true =
     sym c.settings_legal.ensures ∙ c.if-not-settings_legal.false in
     let small : limited c.args.s.image ≡ true =
-    sym c.limited-small.ensures ∙ c.if-not-small.false in
+    cc in
     let counts : eqb (length c.args.samples.now) (sample_count c.args.s.image) ≡ eqb (length c.args.samples.now) c.sample_count.result =
     ap (λ (n : ℕ). eqb (length c.args.samples.now) n) (sym c.sample_count.ensures) in
     rw (legal, small, counts ∙ ne_eqb _ _ c.if-not-counted.true)

@@ -7,21 +7,21 @@ use native.Mathlib.Omega.{arith}
 use lib.ListN.{length, length-set, drop_of_length-le}
 use Rattle.closing.proofs.clear.clear_bytes.Goals as goal
 
-pub loop-at-init : goal.loop-at-init
-loop-at-init c = (omega arith, refl, refl)
+pub bytes-init : goal.bytes-init
+bytes-init c = (omega arith, refl, refl)
 
-pub loop-at-smaller : goal.loop-at-smaller
-loop-at-smaller c = simp length-set (omega arith)
+pub bytes-smaller : goal.bytes-smaller
+bytes-smaller c = simp length-set (omega arith)
 
-pub loop-at-preserved : goal.loop-at-preserved
-loop-at-preserved c =
-    let v = c.loop-at in
+pub bytes-preserved : goal.bytes-preserved
+bytes-preserved c =
+    let v = c.bytes in
     let o = c.args.area.now in
     (omega arith, rw v.invariant.1 (fill_more v.at 0 o (omega arith)), simp length-set v.invariant.2)
 
 pub returns : goal.returns
 returns c =
-    let v = c.loop-at in
+    let v = c.bytes in
     let o = c.args.area.now in
     let e : v.at ≡ length o = omega arith in
     let l : length o ≤ v.at = omega arith in

@@ -5,8 +5,8 @@ use Prim.Native.Nat.{◌-◌, ◌≤◌}
 use lib.ListN.{length, drop, replicate}
 use Rattle.closing.proofs.clear.clear_bytes.Given as goal
 
-abbrev pub invariant-loop-at : goal.invariant-loop-at
-invariant-loop-at l = (l.at ≤ length l.initial.area) × (l.area ≡ replicate l.at 0 ++ drop l.at l.initial.area) × (length l.area ≡ length l.initial.area)
+abbrev pub invariant-bytes : goal.invariant-bytes
+invariant-bytes l = (l.at ≤ length l.initial.area) × (l.area ≡ replicate l.at 0 ++ drop l.at l.initial.area) × (length l.area ≡ length l.initial.area)
 
-abbrev pub decreases-loop-at : goal.decreases-loop-at
-decreases-loop-at l = length l.area - l.at
+abbrev pub decreases-bytes : goal.decreases-bytes
+decreases-bytes l = length l.area - l.at
