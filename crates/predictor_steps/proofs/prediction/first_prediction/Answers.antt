@@ -1,6 +1,5 @@
 -- `predictor_steps::prediction::first_prediction` meets its contract: the sample before is there where a band predicts.
 use mathlib.Core.Path.{sym}
-use mathlib.Core.Logic.{⊎_elim}
 use Prim.Native.Nat.{◌-◌, ◌*◌, ◌<◌}
 use native.Mathlib.Omega.{arith}
 use lib.ListN.{length, get_or}
@@ -13,6 +12,7 @@ use Rattle.predictor_steps.proofs.Firsts.{before_in, first_behind, first_none, f
 use Rattle.predictor_steps.proofs.PredictionFits.{Twice, twice_fits}
 use borrow.Author.Tests.{lt-ltb, le-ltb}
 use Rattle.predictor_steps.proofs.prediction.first_prediction.Goals as goal
+use Rattle.predictor_steps.proofs.prediction.first_prediction.Goals.{else-z-gt0-via-then-z-gt0+else-s-gt0, else-z-gt0-via-else-z-gt0}
 
 pub overflow_mul-area : goal.overflow_mul-area
 overflow_mul-area c = let h = area_small c.requires.given in omega arith
@@ -54,7 +54,7 @@ returns-then-s-gt0 c =
     let s = c in
     let f = before-fits in
     simp (to_z-of_z, f.x_32, f.x_64, f.r)
-    (sym (first_behind c.requires c.if-z-gt0.true (lt-ltb _ _ c.if-s-gt0.true)))
+    (sym (first_behind c.requires c.if-z-gt0.true (lt-ltb _ _ (omega arith))))
 
 pub overflow_cast-result-2 : goal.overflow_cast-result-2
 overflow_cast-result-2 c =
@@ -75,4 +75,8 @@ returns c =
     let p = c.requires in
     let f = middle_fits in
     simp (to_z-of_z, f.x_32, f.x_64, f.r)
-    (sym (⊎_elim (λ w. first_none p (le-ltb _ _ w.1)) (λ w. first_band p w) c.else-z-gt0.either))
+    (sym
+    (elim c.else-z-gt0.branch [
+      | else-z-gt0-via-then-z-gt0+else-s-gt0 w ↦ first_none p (le-ltb _ _ (omega arith))
+      | else-z-gt0-via-else-z-gt0 w ↦ first_band p (omega arith)
+    ]))
