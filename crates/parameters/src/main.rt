@@ -8,7 +8,7 @@ use coder::Statistics;
 use coder::selection::code_parameter;
 use replay_areas::hash::word;
 use replay_areas::lines::{Told, line};
-use std::io::{self, BufWriter, Write};
+use std::io::{self, Write};
 
 // One more than the largest counter, of γ* = 11.
 const COUNTERS: u32 = 2048;
@@ -71,9 +71,9 @@ fn tell(output: &mut impl Write, count: u32) -> io::Result<()> {
 }
 
 fn main(rt: HostRuntime) -> io::Result<()> {
-    let mut output = BufWriter::new(rt.alloc(), rt.stdout())?;
+    let mut output = rt.stdout();
     for count in 1..COUNTERS {
         tell(&mut output, count)?;
     }
-    output.flush()
+    Ok(())
 }
