@@ -1,12 +1,5 @@
 -- A band begun: its first weights in front, its first statistics behind them, and nothing else is looked at.
-use mathlib.Core.Path.{◌≡◌, sym, ◌∙◌, ap}
-use mathlib.Core.List.{List, ◌++◌}
-use Prim.Native.Nat.{ℕ, ◌+◌, ◌^◌, ◌≤◌}
-use native.Mathlib.Omega.{arith}
-use lib.IntN.{ℤ, pos}
-use lib.ListN.{length, set, take, drop, length-append, length-drop, length-take}
-use lib.Pow.{pow_mono}
-use lib.Seq.{take_at, take-take, length-take-le}
+use Rattle.std.proofs.Common.{◌≡◌, sym, ◌∙◌, ap, List, ◌++◌, ℕ, ◌+◌, ◌^◌, ◌≤◌, arith, ℤ, pos, length, set, take, drop, length-append, length-drop, length-take, pow_mono, take_at, take-take, length-take-le}
 use borrow.Rule.Slice.PartMut.{put_mid}
 use Rattle.settings.specs.declared.Settings.{Settings}
 use Rattle.settings.specs.Tables.{component_count}

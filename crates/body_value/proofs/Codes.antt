@@ -1,17 +1,7 @@
 -- The coder's half: statistics held in two slots, their step, and the bits.
-use mathlib.Core.Path.{◌≡◌, refl, sym, ◌∙◌, ap}
-use mathlib.Core.Bool.{Bool}
-use mathlib.Core.List.{List}
-use Prim.Native.Nat.{ℕ, zero, suc, ◌*◌, ◌^◌, ◌<◌, ◌≤◌}
-use native.Mathlib.Nat.{mul-le-mul}
-use native.Mathlib.Omega.{arith}
-use lib.IntN.{ℤ, pos, nat_abs}
-use lib.ListN.{length, get_or, set, drop, length-set}
-use lib.Pow.{pow_mono}
-use lib.Seq.{get_or-set_same, get_or-set_other}
+use Rattle.std.specs.Prelude.{Result, Ok, Err}
+use Rattle.std.proofs.Common.{◌≡◌, refl, sym, ◌∙◌, ap, Bool, List, ℕ, zero, suc, ◌*◌, ◌^◌, ◌<◌, ◌≤◌, mul-le-mul, arith, ℤ, pos, nat_abs, length, get_or, set, drop, length-set, pow_mono, get_or-set_same, get_or-set_other}
 use Rattle.bitstream.specs.declared.write.Tail.{Tail}
-use Rattle.bitstream.specs.declared.read.Got.{Got}
-use Rattle.bitstream.specs.declared.read.Got.TheVariants.{Value, Short, Bad}
 use Rattle.bitstream.specs.Stream.{Parsed, ok, bits, field}
 use Rattle.bitstream.specs.Writer.{Put}
 use Rattle.bitstream.specs.Reader.{found, Means}
@@ -28,6 +18,7 @@ use Rattle.coder.specs.Asks.{most_rescaling, rescaling_fits, Counted, Putting, G
 use Rattle.body_value.specs.declared.plan.Plan.{Plan}
 use Rattle.body_value.specs.Plan.{Planned}
 use Rattle.body_value.specs.Coder.{statistics_in, Counts, Keeping, Coding, Coded, Decoding, Found, Decoded}
+use Rattle.bitstream.specs.declared.read.Unread.{Unread}
 use Rattle.body_value.proofs.Plans.{legal}
 
 -- ---- the slots
@@ -142,8 +133,8 @@ module _ {P : Plan} {l : List ℤ} (plan : Planned P) (fit : Counts P.settings l
 -- ---- written
 
 module _ {P : Plan} {l : List ℤ} {δ : ℕ} {k : Tail} (q : Coding P l δ k) where
-  pub plain_in : (P.settings.image.depth ≤ 32) × (δ < 2 ^ P.settings.image.depth) × (k.count < 32) × (k.at < 2 ^ 60)
-  plain_in = (let d = (legal q.plan).image.depth_most in omega arith, q.small, q.count, let r = q.room in omega arith)
+  pub plain_in : (P.settings.image.depth ≤ 32) × (δ < 2 ^ P.settings.image.depth) × (k.at < 2 ^ 60)
+  plain_in = (let d = (legal q.plan).image.depth_most in omega arith, q.small, let r = q.room in omega arith)
 
   pub first_coded : {out out' : List ℕ} {k' : Tail} (t : ℕ) → t ≡ 0 → Put k out (bits P.settings.image.depth δ) k' out' → Coded P l δ t k out l k' out'
   first_coded t e p = record {
@@ -160,7 +151,6 @@ module _ {P : Plan} {l : List ℤ} {δ : ℕ} {k : Tail} (q : Coding P l δ k) w
       depth_most = (legal q.plan).image.depth_most;
       unary_most = (legal q.plan).coder.unary_most;
       delta_fits = q.small;
-      count = q.count;
       room = let r = q.room in omega arith;
     }
 
@@ -180,17 +170,16 @@ module _ {P : Plan} {l : List ℤ} {at : ℕ} (q : Decoding P l at) where
   pub plain_at : (0 < P.settings.image.depth) × (P.settings.image.depth ≤ 32) × (at ≤ 2 ^ 62)
   plain_at = (let d = (legal q.plan).image.depth_least in omega arith, let d = (legal q.plan).image.depth_most in omega arith, let r = q.room in omega arith)
 
-  first_by : (F : List Bool) (t : ℕ) → t ≡ 0 → (r : Got) → Means F (field P.settings.image.depth (drop at F)) r → Decoded P l F at t l r
-  first_by F t e (Value δ a) m = record {
+  first_by : (F : List Bool) (t : ℕ) → t ≡ 0 → (r : Result (ℕ × ℕ) Unread) → Means F (field P.settings.image.depth (drop at F)) r → Decoded P l F at t l r
+  first_by F t e (Ok (δ, a)) m = record {
     off = sym (decode_first P.settings (statistics_in l) (drop at F) t e) ∙ m.0;
     inside = m.1;
     statistics = behind_first P.settings (statistics_in l) δ t e;
     fit = q.fit;
   }
-  first_by F t e Short m = sym (decode_first P.settings (statistics_in l) (drop at F) t e) ∙ m
-  first_by F t e Bad m = sym (decode_first P.settings (statistics_in l) (drop at F) t e) ∙ m
+  first_by F t e (Err why) m = sym (decode_first P.settings (statistics_in l) (drop at F) t e) ∙ m
 
-  pub first_decoded : (F : List Bool) (t : ℕ) → t ≡ 0 → (r : Got) → r ≡ found F at P.settings.image.depth → Decoded P l F at t l r
+  pub first_decoded : (F : List Bool) (t : ℕ) → t ≡ 0 → (r : Result (ℕ × ℕ) Unread) → r ≡ found F at P.settings.image.depth → Decoded P l F at t l r
   first_decoded F t e r er = first_by F t e r (rw er (found_means F at P.settings.image.depth plain_at.0))
 
   module _ {old : Statistics} (eo : old ≡ statistics_in l) where

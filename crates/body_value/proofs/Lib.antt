@@ -2,5 +2,6 @@
 pub mod Plans
 pub mod Predicts
 pub mod Codes
+pub mod Missing
 pub mod Values
 pub mod Bands

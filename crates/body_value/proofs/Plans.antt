@@ -1,15 +1,7 @@
 -- What is looked up once, as facts: the range is small, and the interval is the power of 2 that its halvings say.
-use mathlib.Core.Path.{◌≡◌, refl, sym, ap, ap₂, ◌∙◌}
-use mathlib.Core.Bool.{true}
-use mathlib.Core.List.{List}
-use Prim.Native.Nat.{ℕ, zero, suc, ◌+◌, ◌-◌, ◌*◌, ◌/◌, ◌^◌, ◌<◌, ◌≤◌}
-use native.Mathlib.Nat.{mul_comm, mul-le-mul, mul-le-mul_right}
-use native.Mathlib.Omega.{arith}
-use lib.IntN.{ℤ, nat_abs}
-use lib.Pow.{pow_pos, pow_mono}
-use mir.Syntax.{w32}
-use mir.Val.{SFits}
-use borrow.Author.Tests.{le-leb, lt-leb}
+use Rattle.std.proofs.Common.{◌≡◌, refl, sym, ap, ap₂, ◌∙◌, true, List, ℕ, zero, suc, ◌*◌, ◌/◌, ◌^◌, ◌<◌, ◌≤◌, max, mul_comm, mul-le-mul, mul-le-mul_right, arith, ℤ, nat_abs, pow_pos, pow_mono, w32, SFits, le-leb}
+use Rattle.std.proofs.Math.Decide.{dec_le}
+use borrow.Author.Tests.{lt-leb}
 use Rattle.integers.proofs.Laws.{le_parts, one0, abs_parts, sz_abs, sz_fits}
 use Rattle.settings.specs.declared.Settings.{Settings}
 use Rattle.settings.specs.Legal.{settings_legal, limited}
@@ -49,39 +41,35 @@ unfolding halvings
 halved_out zero x h = refl
 halved_out (suc n) x h = rw (le-leb x 1 h)
 
-halvings_power : (n e : ℕ) → e ≤ n → halvings n (2 ^ e) ≡ e
-halvings_power n zero h = halved_out n (2 ^ 0) (omega arith)
-halvings_power zero (suc e) h = absurd (omega arith)
-halvings_power (suc n) (suc e) h =
-    let d : 2 ^ suc e ≡ 2 ^ e * 2 = omega arith in
+-- a number from 2 ^ e up to the next power is halved e times
+halvings_log : (n x e : ℕ) → e ≤ n → 2 ^ e ≤ x → x < 2 * 2 ^ e → halvings n x ≡ e
+halvings_log n x zero h low high = halved_out n x (omega arith)
+halvings_log zero x (suc e) h low high = absurd (omega arith)
+halvings_log (suc n) x (suc e) h low high =
     let p : 0 < 2 ^ e = pow_pos e in
-    let q : 2 ^ suc e / 2 ≡ 2 ^ e = omega arith in
-    halved_once n (2 ^ suc e) (omega arith) ∙ ap suc (rw q (halvings_power n e (omega arith)))
+    let d : 2 ^ suc e ≡ 2 ^ e * 2 = omega arith in
+    halved_once n x (omega arith) ∙ ap suc (halvings_log n (x / 2) e (omega arith) (omega arith) (omega arith))
 
--- what is left to halve, and how often it was
-pub record Halved (x rest count : ℕ) : Type 0 where
-  pub few : count ≤ 11
-  pub small : rest ≤ 2 ^ (11 - count)
-  pub same : count + halvings (11 - count) rest ≡ halvings 11 x
+halvings_power : (n e : ℕ) → e ≤ n → halvings n (2 ^ e) ≡ e
+halvings_power n e h = let p : 0 < 2 ^ e = pow_pos e in halvings_log n (2 ^ e) e h (omega arith) (omega arith)
 
-pub halved_begin : (x : ℕ) → x ≤ 2 ^ 11 → Halved x x 0
-halved_begin x h = record { few = omega arith; small = h; same = omega arith }
-
-pub halved_more : {x rest count : ℕ} → 1 < rest → Halved x rest count → (count < 11) × Halved x (rest / 2) (count + 1)
-halved_more {x} {rest} {count} h v =
-    let few : count < 11 = less (11 - count) refl v.small in
-    let e : 11 - count ≡ suc (11 - (count + 1)) = omega arith in
-    let small : rest ≤ 2 ^ suc (11 - (count + 1)) = rw e at v.small in
-    let once : halvings (11 - count) rest ≡ suc (halvings (11 - (count + 1)) (rest / 2)) = ap (λ (n : ℕ). halvings n rest) e ∙ halved_once (11 - (count + 1)) rest h in
-    let two : 2 ^ suc (11 - (count + 1)) ≡ 2 ^ (11 - (count + 1)) * 2 = omega arith in
-    (few, record { few = omega arith; small = omega arith; same = let s = v.same in omega arith })
+-- the whole part of the logarithm to base 2, and none of 0
+pub halvings_is : (x m e : ℕ) → x ≤ 2 ^ 11 → m ≡ max x 1 → 2 ^ e ≤ m → m < 2 * 2 ^ e → e ≡ halvings 11 x
+halvings_is zero m e h i low high =
+    let one : m ≡ 1 = omega arith in
+    let p : 2 * 2 ^ e ≡ 2 ^ suc e = omega arith in
+    none e (omega arith) ∙ sym (halved_out 11 0 (omega arith))
   where
-    less : (n : ℕ) → 11 - count ≡ n → rest ≤ 2 ^ n → count < 11
-    less zero e s = absurd (omega arith)
-    less (suc n) e s = omega arith
-
-pub halved_end : {x rest count : ℕ} → rest ≤ 1 → Halved x rest count → count ≡ halvings 11 x
-halved_end {x} {rest} {count} h v = let z = halved_out (11 - count) rest h in let s = v.same in omega arith
+    none : (e : ℕ) → 2 ^ e ≤ 1 → e ≡ 0
+    none zero q = refl
+    none (suc e) q = let p : 0 < 2 ^ e = pow_pos e in absurd (omega arith)
+halvings_is (suc x) m e h i low high =
+    let same : m ≡ suc x = omega arith in
+    sym (halvings_log 11 (suc x) e (few (dec_le e 11)) (omega arith) (omega arith))
+  where
+    few : Dec (e ≤ 11) → e ≤ 11
+    few (yes l) = l
+    few (no l) = let p : 2 ^ 12 ≤ 2 ^ e = pow_mono {i = 12} {j = e} (omega arith) in absurd (omega arith)
 
 -- ---- the plan
 

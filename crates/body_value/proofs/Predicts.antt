@@ -1,14 +1,6 @@
 -- The predictor's half: what each function asks follows from the plan, the place and sizes; what they answer is the definition's.
-use mathlib.Core.Path.{◌≡◌, refl, sym, ◌∙◌, ap, ap₂}
-use mathlib.Core.Bool.{Bool, true}
-use mathlib.Core.List.{List, ◌++◌}
-use Prim.Native.Nat.{ℕ, zero, suc, ◌+◌, ◌*◌, ◌^◌, ◌<◌, ◌≤◌}
-use native.Mathlib.Omega.{arith}
-use lib.IntN.{ℤ, pos, nat_abs, ◌-ℤ◌}
-use lib.Signed.{le_z, ◌≤ℤ◌}
-use lib.ListN.{length, get_or, take, drop, length-append, length-drop}
-use lib.Pow.{pow_mono}
-use lib.Seq.{take_at, length-take-le}
+use Rattle.std.proofs.Common.{◌≡◌, refl, sym, ◌∙◌, ap, ap₂, Bool, true, List, ◌++◌, ℕ, zero, suc, ◌+◌, ◌*◌, ◌^◌, ◌<◌, ◌≤◌, arith, ℤ, pos, nat_abs, ◌-ℤ◌, ◌≤ℤ◌, length, get_or, take, drop, length-append, length-drop, pow_mono, take_at, length-take-le}
+use lib.Signed.{le_z}
 use Rattle.settings.specs.Limits.{most_samples}
 use Rattle.settings.specs.declared.Settings.{Settings}
 use Rattle.settings.specs.Range.{in_range}

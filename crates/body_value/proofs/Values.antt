@@ -1,18 +1,13 @@
 -- One value through a band's slots: the halves' parts lent and back, and what they answer together where the slots hold the band's state.
-use mathlib.Core.Path.{◌≡◌, refl, sym, ◌∙◌, ap, ap₂}
-use mathlib.Core.Bool.{Bool, true}
-use mathlib.Core.List.{List, ◌∷◌, ◌++◌}
-use Prim.Native.Nat.{ℕ, zero, suc, ◌+◌, ◌*◌, ◌/◌, ◌%◌, ◌^◌, ◌<◌, ◌≤◌}
+use Rattle.std.proofs.Common.{◌≡◌, refl, sym, ◌∙◌, ap, ap₂, Bool, true, List, ◌∷◌, ◌++◌, ℕ, zero, suc, ◌+◌, ◌*◌, ◌/◌, ◌%◌, ◌^◌, ◌<◌, ◌≤◌, add-one, arith, ℤ, pos, length, get_or, set, take, drop, length-set, length-append, length-drop, length-take, take_at, drop_at, length-take-le, get_or-set_same, get_or-set_other}
 use native.Mathlib.Decide.{ℕ_discrete}
-use native.Mathlib.Numerals.{add-one}
-use native.Mathlib.Omega.{arith}
 use lib.Arith.{digits_div, digits_mod}
-use lib.IntN.{ℤ, pos}
-use lib.ListN.{length, get_or, set, take, drop, length-set, length-append, length-drop, length-take}
-use lib.Seq.{take_at, drop_at, length-take-le, get_or-set_same, get_or-set_other}
 use borrow.Rule.Slice.PartMut.{put_mid, take_put, same_len_mid}
 use Rattle.bitstream.specs.declared.write.Tail.{Tail}
+use Rattle.bitstream.specs.declared.read.Unread.{Unread}
+use Rattle.bitstream.specs.declared.read.Unread.TheVariants.{Short, Bad}
 use Rattle.bitstream.specs.Stream.{Parsed, ok, short, bad}
+use Rattle.bitstream.specs.Reader.{unread}
 use Rattle.settings.specs.declared.Settings.{Settings}
 use Rattle.settings.specs.declared.Image as settings
 use Rattle.refusals.specs.declared.Refusal.TheVariants.{BodyEnds, BadCodeword}
@@ -39,8 +34,8 @@ use Rattle.body_value.specs.declared.Place.{Place}
 use Rattle.body_value.specs.declared.Cursor.{Cursor}
 use Rattle.body_value.specs.Plan.{Planned}
 use Rattle.body_value.specs.Predictor.{Predicting, Mapped, Restored}
-use Rattle.body_value.specs.Coder.{statistics_in, Coding, Coded, Decoding, Found}
-use Rattle.body_value.specs.Value.{Held, place_of, Writing, Wrote, Reading, Placed}
+use Rattle.body_value.specs.Coder.{statistics_in, Coding, Coded, Found}
+use Rattle.body_value.specs.Value.{Held, refused_at, place_of, Writing, Wrote, Reading, Placed}
 use Rattle.body_value.proofs.Plans.{legal}
 
 -- ---- the parts of a band's slots
@@ -128,7 +123,7 @@ module _ {P : Plan} {samples slots : List ℤ} {k : Tail} {p : Place} (q : Writi
     kept = ap (take 14) (drop_at ws' (drop 18 slots) 18 m.fit.long)
 
     pub coding : Coding P (take 14 (drop 18 (ws' ++ drop 18 slots))) δ k
-    coding = record { plan = q.plan; fit = rw kept q.fits.counts; small = m.small; count = q.count; room = q.room }
+    coding = record { plan = q.plan; fit = rw kept q.fits.counts; small = m.small; room = q.room }
 
     pub wrote : {out out' : List ℕ} {k' : Tail} {l' : List ℤ} → Coded P (take 14 (drop 18 (ws' ++ drop 18 slots))) δ p.t k out l' k' out'
         → Wrote P samples slots k out p (put_mid 18 14 (ws' ++ drop 18 slots) l') k' out'
@@ -265,9 +260,6 @@ module _ {P : Plan} {samples slots : List ℤ} {c : Cursor} {p : Place} (q : Rea
   abbrev I' : Image
   I' = image_of P.settings.image samples
 
-  pub decoding : Decoding P (take 14 (drop 18 slots)) c.at
-  decoding = record { plan = q.plan; fit = q.fits.counts; room = q.room }
-
   pub predicting : Predicting P samples (take 18 slots) p
   predicting = record { plan = q.plan; image = q.image; here = q.here; fit = q.fits.weights }
 
@@ -279,15 +271,21 @@ module _ {P : Plan} {samples slots : List ℤ} {c : Cursor} {p : Place} (q : Rea
   pub index_is : p.z * P.area + p.t ≡ index_of P.settings.image p.z p.t
   index_is = ap (λ (a : ℕ). p.z * a + p.t) q.plan.area_is
 
-  pub stops_short : (F : List Bool) → decode P.settings p.t (statistics_in (take 14 (drop 18 slots))) (drop c.at F) ≡ short
+  stops_short : (F : List Bool) → decode P.settings p.t (statistics_in (take 14 (drop 18 slots))) (drop c.at F) ≡ short
       → (tables : List ℤ) → Held P.settings tables (image_of P.settings.image samples) p.z p.t slots
       → (qs : List order.Place) → read_body P.settings tables c.rank (place_of p ∷ qs) samples (drop c.at F) ≡ refused (BodyEnds c.rank)
   stops_short F e tables h qs = read_short S' tables c.rank (place_of p) qs samples (drop c.at F) (off_at S' tables I' p.z p.t (drop c.at F) short h.statistics e)
 
-  pub stops_bad : (F : List Bool) → decode P.settings p.t (statistics_in (take 14 (drop 18 slots))) (drop c.at F) ≡ bad
+  stops_bad : (F : List Bool) → decode P.settings p.t (statistics_in (take 14 (drop 18 slots))) (drop c.at F) ≡ bad
       → (tables : List ℤ) → Held P.settings tables (image_of P.settings.image samples) p.z p.t slots
       → (qs : List order.Place) → read_body P.settings tables c.rank (place_of p ∷ qs) samples (drop c.at F) ≡ refused (BadCodeword c.rank)
   stops_bad F e tables h qs = read_bad S' tables c.rank (place_of p) qs samples (drop c.at F) (off_at S' tables I' p.z p.t (drop c.at F) bad h.statistics e)
+
+  pub stops : (F : List Bool) (why : Unread) → decode P.settings p.t (statistics_in (take 14 (drop 18 slots))) (drop c.at F) ≡ unread why
+      → (tables : List ℤ) → Held P.settings tables (image_of P.settings.image samples) p.z p.t slots
+      → (qs : List order.Place) → read_body P.settings tables c.rank (place_of p ∷ qs) samples (drop c.at F) ≡ refused (refused_at c.rank why)
+  stops F Short = stops_short F
+  stops F Bad = stops_bad F
 
   module _ {F : List Bool} {l' : List ℤ} {δ a : ℕ} (d : Found P (take 14 (drop 18 slots)) F c.at p.t l' δ a) where
     written : (drop c.at F ≡ encode S' p.t (statistics_in (take 14 (drop 18 slots))) δ ++ drop a F) × (δ < 2 ^ S'.image.depth)

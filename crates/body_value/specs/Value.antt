@@ -1,8 +1,12 @@
 -- One value of a band through its slots: safe whatever they hold, and right where they hold the band's state.
-use Rattle.std.specs.Prelude.{◌≡◌, Bool, List, ◌∷◌, ℕ, suc, ◌+◌, ◌^◌, ◌<◌, ◌≤◌, ℤ, length, take, drop, set}
+use Rattle.std.specs.Prelude.{◌≡◌, Bool, List, ◌∷◌, ℕ, suc, ◌+◌, ◌^◌, ◌<◌, ◌≤◌, ℤ, length, take, drop, set, Result, Ok, Err}
 use Rattle.bitstream.specs.declared.write.Tail.{Tail}
+use Rattle.bitstream.specs.declared.read.Unread.{Unread}
+use Rattle.bitstream.specs.declared.read.Unread.TheVariants.{Short, Bad}
 use Rattle.bitstream.specs.Writer.{Put}
+use Rattle.refusals.specs.declared.Refusal.TheVariants.{BodyEnds, BadCodeword}
 use Rattle.settings.specs.declared.Settings.{Settings}
+use Rattle.refusals.specs.declared.Refusal.{Refusal}
 use Rattle.refusals.specs.Reading.{refused}
 use Rattle.settings.specs.Tables.{component_count, scratch_stride}
 use Rattle.predictor.specs.Differences.{Image, index_of, image_of}
@@ -15,10 +19,9 @@ use Rattle.body.specs.Body.{code, read_body}
 use Rattle.body_value.specs.declared.plan.Plan.{Plan}
 use Rattle.body_value.specs.declared.Place.{Place}
 use Rattle.body_value.specs.declared.Cursor.{Cursor}
-use Rattle.body_value.specs.declared.Step.{Step}
-use Rattle.body_value.specs.declared.Step.TheVariants.{On, Refused}
 use Rattle.body_value.specs.Plan.{Planned, Inside}
 use Rattle.body_value.specs.Predictor.{Weights}
+use Rattle.refusals.specs.declared.Refusal.{Refusal}
 use Rattle.body_value.specs.Coder.{statistics_in, Counts}
 
 -- ---- a band's slots: the weights in the first 18, the statistics behind them
@@ -60,7 +63,6 @@ pub record Writing (P : Plan) (samples slots : List ℤ) (k : Tail) (p : Place) 
   pub image : asks.Given P.settings samples
   pub here : Inside P p
   pub fits : Fits P p.z slots
-  pub count : k.count < 32
   pub room : k.at < 2 ^ 58
 
 pub record Wrote (P : Plan) (samples slots : List ℤ) (k : Tail) (out : List ℕ) (p : Place) (slots' : List ℤ) (k' : Tail) (out' : List ℕ) : Type 0 where
@@ -95,9 +97,14 @@ pub record Placed (P : Plan) (F : List Bool) (samples slots : List ℤ) (c : Cur
       ≡ read_body P.settings tables c'.rank qs samples' (drop c'.at F))
       × Held P.settings tables (image_of P.settings.image samples') p.z (suc p.t) slots'
 
+-- why the body is refused where the value of rank n is not read (document 01, 9 and 10)
+abbrev pub refused_at : ℕ → Unread → Refusal
+refused_at n Short = BodyEnds n
+refused_at n Bad = BadCodeword n
+
 -- what an answer says
-abbrev pub Stepped : Plan → List Bool → List ℤ → List ℤ → Cursor → Place → List ℤ → List ℤ → Step → Type 0
-Stepped P F samples slots c p samples' slots' (On c') = Placed P F samples slots c p c' samples' slots'
-Stepped P F samples slots c p samples' slots' (Refused r) =
+abbrev pub Stepped : Plan → List Bool → List ℤ → List ℤ → Cursor → Place → List ℤ → List ℤ → Result Cursor Refusal → Type 0
+Stepped P F samples slots c p samples' slots' (Ok c') = Placed P F samples slots c p c' samples' slots'
+Stepped P F samples slots c p samples' slots' (Err r) =
     (tables : List ℤ) → Held P.settings tables (image_of P.settings.image samples) p.z p.t slots
     → (qs : List order.Place) → read_body P.settings tables c.rank (place_of p ∷ qs) samples (drop c.at F) ≡ refused r

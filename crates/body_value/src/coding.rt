@@ -4,8 +4,8 @@ ghost use Rattle.bitstream.specs.Stream.{unpack};
 ghost use Rattle.body_value.specs.Coder.{statistics_in, Counts, Keeping, Coding, Coded, Decoding, Decoded};
 
 use super::plan::Plan;
-use bitstream::read::{Got, get};
-use bitstream::write::{Tail, put};
+use bitstream::read::{Unread, get};
+use bitstream::write::Tail;
 use coder::Statistics;
 use coder::counts::{natural, next_statistics};
 use coder::value::{get_value, put_value};
@@ -44,7 +44,7 @@ pub fn coded(p: Plan, slots: &mut [i32], delta: u32, t: usize, tail: Tail, out: 
 {
     let s = p.settings;
     if t == 0 {
-        return put(tail, out, delta, s.image.depth);
+        return tail.put(out, delta, s.image.depth);
     }
     let old = held(p, &*slots);
     let new = next_statistics(old, delta, s.coder.rescaling);
@@ -53,7 +53,13 @@ pub fn coded(p: Plan, slots: &mut [i32], delta: u32, t: usize, tail: Tail, out: 
 }
 
 // The mapped value at a position of the file.
-pub fn decoded(p: Plan, slots: &mut [i32], file: &[u8], at: usize, t: usize) -> Got
+pub fn decoded(
+    p: Plan,
+    slots: &mut [i32],
+    file: &[u8],
+    at: usize,
+    t: usize,
+) -> Result<(u32, usize), Unread>
     requires { Decoding p slots.old at }
     ensures { Decoded p slots.old (unpack file.now) at t slots.new result }
 {
@@ -62,14 +68,8 @@ pub fn decoded(p: Plan, slots: &mut [i32], file: &[u8], at: usize, t: usize) -> 
         return get(file, at, s.image.depth);
     }
     let old = held(p, &*slots);
-    let found = get_value(file, at, old, s.image.depth, s.coder.unary);
-    match found {
-        Got::Value(delta, next) => {
-            let new = next_statistics(old, delta, s.coder.rescaling);
-            keep(slots, new);
-            Got::Value(delta, next)
-        }
-        Got::Short => Got::Short,
-        Got::Bad => Got::Bad,
-    }
+    let (delta, next) = get_value(file, at, old, s.image.depth, s.coder.unary)?;
+    let new = next_statistics(old, delta, s.coder.rescaling);
+    keep(slots, new);
+    Ok((delta, next))
 }

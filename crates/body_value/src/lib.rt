@@ -8,8 +8,6 @@ pub mod plan;
 pub mod predicting;
 pub mod value;
 
-use refusals::Refusal;
-
 // Value t of band z, in column x.
 #[derive(Clone, Copy)]
 pub struct Place {
@@ -23,11 +21,4 @@ pub struct Place {
 pub struct Cursor {
     pub at: usize,
     pub rank: u64,
-}
-
-// Where a reader stands behind what it read, or why it stops.
-#[derive(Clone, Copy)]
-pub enum Step {
-    On(Cursor),
-    Refused(Refusal),
 }

@@ -22,13 +22,7 @@ fn halvings(x: u32) -> u32
     requires { x ≤ 2 ^ 11 }
     ensures { result ≡ halvings 11 x }
 {
-    let mut rest = x;
-    let mut count = 0;
-    while 1 < rest {
-        rest = rest / 2;
-        count += 1;
-    }
-    count
+    x.max(1).ilog2()
 }
 
 // The plan of legal settings.

@@ -1,12 +1,13 @@
 // One value of a band through its slots: the two halves, each with its own part of them.
+ghost use Rattle.std.specs.Prelude.{◌≡◌};
 ghost use Rattle.bitstream.specs.Stream.{unpack};
-ghost use Rattle.body_value.specs.Value.{Writing, Wrote, Reading, Stepped};
+ghost use Rattle.body_value.specs.Value.{Writing, Wrote, Reading, Stepped, refused_at};
 
 use super::coding::{coded, decoded};
 use super::plan::Plan;
 use super::predicting::{mapped_here, sample_here};
-use super::{Cursor, Place, Step};
-use bitstream::read::Got;
+use super::{Cursor, Place};
+use bitstream::read::Unread;
 use bitstream::write::Tail;
 use refusals::Refusal;
 
@@ -26,6 +27,16 @@ pub fn write_value(
     coded(p, &mut slots[18..32], delta, place.t, tail, out)
 }
 
+// Why the body is refused where the value of this rank is not read.
+fn refused_at(rank: u64, why: Unread) -> Refusal
+    ensures { result ≡ refused_at rank why }
+{
+    match why {
+        Unread::Short => Refusal::BodyEnds(rank),
+        Unread::Bad => Refusal::BadCodeword(rank),
+    }
+}
+
 // The value at a place, read, and its sample stored.
 pub fn read_value(
     p: Plan,
@@ -34,30 +45,17 @@ pub fn read_value(
     slots: &mut [i32],
     image: &mut [i32],
     place: Place,
-) -> Step
+) -> Result<Cursor, Refusal>
     requires { Reading p image.old slots.old c place }
     ensures { Stepped p (unpack file.now) image.old slots.old c place image.new slots.new result }
 {
-    let rank = c.rank;
-    let found = decoded(p, &mut slots[18..32], file, c.at, place.t);
-    match found {
-        Got::Value(delta, next) => {
-            let sample = sample_here(p, &*image, &mut slots[..18], place, delta);
-            let at = place.z * p.area + place.t;
-            image[at] = sample;
-            let after = Cursor {
-                at: next,
-                rank: rank + 1,
-            };
-            Step::On(after)
-        }
-        Got::Short => {
-            let why = Refusal::BodyEnds(rank);
-            Step::Refused(why)
-        }
-        Got::Bad => {
-            let why = Refusal::BadCodeword(rank);
-            Step::Refused(why)
-        }
-    }
+    let (delta, next) = decoded(p, &mut slots[18..32], file, c.at, place.t).map_err(
+        |why| refused_at(c.rank, why),
+    )?;
+    let sample = sample_here(p, &*image, &mut slots[..18], place, delta);
+    image[place.z * p.area + place.t] = sample;
+    Ok(Cursor {
+        at: next,
+        rank: c.rank + 1,
+    })
 }

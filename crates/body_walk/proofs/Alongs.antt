@@ -1,17 +1,12 @@
 -- The coding order may be walked: each place finds its band standing there, and no band above it further on.
-use mathlib.Core.Path.{◌≡◌, refl, sym, ◌∙◌, ap}
-use mathlib.Core.Logic.{◌⊎◌, inl, inr}
-use mathlib.Core.Bool.{Bool, true, false, cond}
-use mathlib.Core.List.{List, ◌∷◌, ◌++◌}
-use Prim.Native.Nat.{ℕ, zero, suc, ◌+◌, ◌-◌, ◌*◌, ◌<◌, ◌≤◌, min}
+use Rattle.std.proofs.Common.{◌≡◌, refl, sym, ◌∙◌, ap, ◌⊎◌, inl, inr, Bool, true, false, cond, List, ◌∷◌, ◌++◌, ℕ, zero, suc, ◌+◌, ◌-◌, ◌*◌, ◌<◌, ◌≤◌, min, add-zero, add-suc, suc-add, suc-mul, div-add-mod', mod-lt, le-div_iff_mul-le, arith}
 use native.Mathlib.Decide.{ℕ_discrete}
-use native.Mathlib.Nat.{add-zero, add-suc, suc-add, suc-mul, div-add-mod', mod-lt, le-div_iff_mul-le}
-use native.Mathlib.Omega.{arith}
 use Rattle.settings.specs.declared.Image.{Image}
 use Rattle.settings.specs.Lists.{join, one}
 use Rattle.body.specs.Order.{Place, column_of, row_of, band_sequential, sub_frames, frame_of, band_interleaved, order}
 use Rattle.body_walk.specs.Standing.{bump, after, Along}
-use Rattle.body_walk.proofs.Standings.{bump_here, bump_other, after_append, along_join}
+use Rattle.body_walk.specs.StandingLaws.{after_append, along_join}
+use Rattle.body_walk.proofs.Standings.{bump_here, bump_other}
 
 side : (a b : ℕ) → (a < b) ⊎ (b ≤ a)
 side a b = go (ℕ_discrete (b - a) 0)

@@ -1,12 +1,6 @@
 -- All bands begun, and the body as the walk over all its places.
-use mathlib.Core.Path.{◌≡◌, refl, sym, ◌∙◌, ap, subst}
-use mathlib.Core.Bool.{Bool, false}
-use mathlib.Core.List.{List, [], ◌++◌, append-nil}
-use Prim.Native.Nat.{ℕ, ◌+◌, ◌-◌, ◌*◌, ◌<◌, ◌≤◌}
+use Rattle.std.proofs.Common.{Result, Ok, Err, ◌≡◌, refl, sym, ◌∙◌, ap, Bool, false, List, [], ◌++◌, append-nil, ℕ, ◌+◌, ◌-◌, ◌*◌, ◌<◌, ◌≤◌, arith, ℤ, length, drop}
 use native.Mathlib.Decide.{ℕ_discrete}
-use native.Mathlib.Omega.{arith}
-use lib.IntN.{ℤ}
-use lib.ListN.{length, take, drop, length-take, length-drop}
 use borrow.Rule.Slice.PartMut.{put_mid}
 use Rattle.settings.specs.Limits.{most_samples}
 use Rattle.bitstream.specs.declared.write.Tail.{Tail}
@@ -14,6 +8,7 @@ use Rattle.bitstream.specs.Writer.{Put}
 use Rattle.bitstream.proofs.Writes.{put_as}
 use Rattle.settings.specs.declared.Settings.{Settings}
 use Rattle.settings.specs.LegalLaws.{limited_facts}
+use Rattle.refusals.specs.declared.Refusal.{Refusal}
 use Rattle.refusals.specs.Reading.{got}
 use Rattle.predictor.specs.Differences.{Image, image_of}
 use Rattle.predictor.specs.Inputs.{all_ranged}
@@ -21,10 +16,9 @@ use Rattle.body.specs.Order.{Place, order}
 use Rattle.body.specs.OrderLaws.{length_order}
 use Rattle.body.specs.Body.{body, read_body}
 use Rattle.body_value.specs.declared.plan.Plan.{Plan}
-use Rattle.body_value.specs.declared.Step.{Step}
-use Rattle.body_value.specs.declared.Step.TheVariants.{On, Refused}
+use Rattle.body_value.specs.declared.Cursor.{Cursor}
 use Rattle.body_value.specs.Plan.{Planned}
-use Rattle.body_value.specs.Value.{Startable, Started}
+use Rattle.body_value.specs.Value.{Started}
 use Rattle.body_value.proofs.Plans.{legal}
 use Rattle.body_walk.specs.Standing.{part, Fit, Stand, Along}
 use Rattle.body_walk.specs.Begun.{Tabled, Begun}
@@ -34,18 +28,7 @@ use Rattle.body_walk.specs.Whole.{Starts, ReadStarts, Answer}
 use Rattle.body_walk.proofs.Standings.{part_here, part_before}
 use Rattle.body_walk.proofs.Alongs.{along_order}
 
--- ---- one band begun, and the next
-
-pub startable : {P : Plan} {tables scratch : List ℤ} → Tabled P tables scratch → {z : ℕ} → z < P.settings.image.nz → (s : List ℤ) → length s ≡ length scratch
-    → Startable P tables (take (32 * z + 32 - 32 * z) (drop (32 * z) s)) z
-startable q {z} h s e = record {
-  plan = q.plan;
-  begins = record { legal = q.plan.legal; tables_legal_lem = q.values; tables_long = q.area; band_in = h };
-  long = rw (length-take, length-drop) (let l = q.long in omega arith);
-}
-
-pub begun_none : {P : Plan} {tables s : List ℤ} → Begun P tables s 0
-begun_none = record { each = λ b k. absurd (omega arith) }
+-- ---- the next band begun
 
 pub begun_more : {P : Plan} {tables scratch s : List ℤ} {z : ℕ} (l : List ℤ) → Tabled P tables scratch → z < P.settings.image.nz → length s ≡ length scratch
     → Started P tables z l → Begun P tables s z → Begun P tables (put_mid (32 * z) (32 * z + 32 - 32 * z) s l) (z + 1)
@@ -57,9 +40,6 @@ begun_more {P} {tables} {scratch} {s} {z} l q h es d g =
     go : (b : ℕ) → b < z + 1 → 32 * z + 32 ≤ length s → length l ≡ 32 → Dec (b ≡ z) → Started P tables b (part (put_mid (32 * z) (32 * z + 32 - 32 * z) s l) b)
     go b k w n (yes e) = rw (e, part_here s l z w n) d
     go b k w n (no e) = rw (part_before s l z w n b (omega arith)) (g.each b (omega arith))
-
-pub begun_as : {P : Plan} {tables s : List ℤ} {n m : ℕ} → n ≡ m → Begun P tables s n → Begun P tables s m
-begun_as {P} {tables} {s} e g = subst (λ (n : ℕ). Begun P tables s n) e g
 
 -- ---- the whole order
 
@@ -87,12 +67,11 @@ module _ {P : Plan} {tables scratch s : List ℤ} (q : Tabled P tables scratch) 
   -- ---- written
 
   pub writes : {samples : List ℤ} {k : Tail} {out : List ℕ} → Starts P tables samples scratch k → Writable P samples (writer_at s k out) (order P.settings.image)
-  writes h = record {
+  writes {samples} {k} h = record {
     plan = q.plan;
     image = h.image;
     fit = fit;
-    count = h.count;
-    room = let f = places_few q.plan in let a = h.at in let c = h.count in omega arith;
+    room = let f = places_few q.plan in let a = h.at in let few = k.few in omega arith;
   }
 
   pub written : {samples : List ℤ} {k k' : Tail} {out out' : List ℕ} {s' : List ℤ}
@@ -117,10 +96,10 @@ module _ {P : Plan} {tables scratch s : List ℤ} (q : Tabled P tables scratch) 
     all : read_body P.settings tables 0 (order P.settings.image) samples (drop at F) ≡ read_body P.settings tables 0 (order P.settings.image ++ []) samples (drop at F)
     all = ap (λ (l : List Place). read_body P.settings tables 0 l samples (drop at F)) (sym (append-nil (order P.settings.image)))
 
-    pub answered : (r : Step) → Went P F (reader_at samples s (record { at = at; rank = 0 })) (order P.settings.image) x' s' r → Answer P.settings tables F at samples x' r
-    answered (On c) m = record {
+    pub answered : (r : Result Cursor Refusal) → Went P F (reader_at samples s (record { at = at; rank = 0 })) (order P.settings.image) x' s' r → Answer P.settings tables F at samples x' r
+    answered (Ok c) m = record {
       read = all ∙ (m.means tables (λ z. 0) (stand (image_of P.settings.image samples)) (along q.plan)).0 [] ∙ read_none P.settings tables c.rank x' (drop c.at F);
       good = record { long = m.image.long; in_range_lem = all_ranged m.image };
       inside = m.inside;
     }
-    answered (Refused r) m = all ∙ m.means tables (λ z. 0) (stand (image_of P.settings.image samples)) (along q.plan) []
+    answered (Err r) m = all ∙ m.means tables (λ z. 0) (stand (image_of P.settings.image samples)) (along q.plan) []

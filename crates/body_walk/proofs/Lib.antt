@@ -1,4 +1,4 @@
--- Lemmas of the walk: loops over places, where the bands stand, parts of the walk one after the other each way, the order, the whole body.
+-- Lemmas of the walk: loops over places, where the bands stand, one value each way, the order, the whole body.
 pub mod Loops
 pub mod Standings
 pub mod Orders

@@ -1,75 +1,59 @@
--- A walk over places in parts. With an empty part, two parts joined and what is ready behind a part, a loop over places keeps: done so far, ready for the next.
-use mathlib.Core.Path.{◌≡◌, refl, sym, ◌∙◌, ap, subst}
-use mathlib.Core.List.{List, [], ◌++◌, append_assoc, append-nil}
-use Prim.Native.Nat.{ℕ, ◌+◌, ◌-◌, ◌<◌}
-use native.Mathlib.Omega.{arith}
-use Rattle.settings.specs.Lists.{join}
-use Rattle.settings.specs.ListLaws.{join_append}
+-- A loop over the parts g a, g (a + 1), .. of a walk keeps: what is done of all places, and what is left of them.
+use Rattle.std.proofs.Common.{◌≡◌, ℕ, ◌+◌, ◌-◌, ◌<◌, ◌≤◌, List, [], ◌++◌, append_assoc, append-nil, sym, ◌∙◌, ap, subst, add-one, arith}
+use Rattle.settings.specs.Lists.{join, one}
 use Rattle.body.specs.Order.{Place}
+use Rattle.body_walk.specs.Direction.{WalkLaws}
 
--- ---- a join at turn i
+-- ---- a join from its front
 
-join_none : (g : ℕ → List Place) (a : ℕ) → join g a 0 ≡ []
+join_none : (g : ℕ → List Place) (a n : ℕ) → n ≡ 0 → join g a n ≡ []
 unfolding join
-join_none g a = refl
+join_none g a n e = ap (join g a) e
 
-join_next : (g : ℕ → List Place) (a n : ℕ) → join g a n ++ g (a + n) ≡ join g a (n + 1)
+join_first : (g : ℕ → List Place) (a m n : ℕ) → m ≡ n + 1 → join g a m ≡ g a ++ join g (a + 1) n
 unfolding join
-join_next g a n = sym (join_append g a n 1 ∙ rw (append-nil (g (a + n))))
+join_first g a m n f = ap (join g a) (f ∙ add-one n) ∙ ap (λ (k : ℕ). g a ++ join g k n) (sym (add-one a))
 
-module _ (g : ℕ → List Place) (a i z : ℕ) (e : a + i ≡ z) where
-  join_one : (j : ℕ) → j ≡ i + 1 → join g a i ++ g z ≡ join g a j
-  join_one j h = ap (λ (m : ℕ). join g a i ++ g m) (sym e) ∙ join_next g a i ∙ ap (join g a) (sym h)
+-- ---- loops
 
-  -- what comes behind turn i
-  abbrev others : ℕ → List Place
-  others n = join g (a + (i + 1)) (n - (i + 1))
+-- all but what is left is done
+pub record Going {S : Type 0} (Part : S → List Place → S → Type 0) (all left : List Place) (s s' : S) : Type 0 where
+  pub done : List Place
+  pub split : all ≡ done ++ left
+  pub part : Part s done s'
 
-  join_all : (n : ℕ) → i < n → join g a n ≡ join g a i ++ (g z ++ others n)
-  join_all n h =
-      let f : n ≡ i + 1 + (n - (i + 1)) = omega arith in
-      ap (join g a) f ∙ join_append g a (i + 1) (n - (i + 1))
-      ∙ ap (λ (l : List Place). l ++ others n) (sym (join_one (i + 1) refl)) ∙ append_assoc (join g a i) (g z) (others n)
+-- left are the parts i .. n − 1 of g, and what comes behind them
+pub record Loop {S : Type 0} (Part : S → List Place → S → Type 0) (all : List Place) (g : ℕ → List Place) (behind : List Place) (i n : ℕ) (s s' : S) : Type 0 where
+  pub going : Going Part all (join g i (n - i) ++ behind) s s'
 
--- ---- walks
+module _ {S Reason : Type 0} {Ready : S → List Place → Type 0} {Part : S → List Place → S → Type 0} {Stop : S → List Place → Reason → Type 0}
+    (laws : WalkLaws Ready Part Stop) {all : List Place} {s : S} where
+  pub begin : {left : List Place} → all ≡ left → Ready s all → Going Part all left s s
+  begin e r = record { done = []; split = e; part = laws.none r }
 
--- Part s ps s': from s the walk over ps leads to s'. Ready s ps: it may be walked.
-pub record Walk (State : Type 0) : Type 1 where
-  pub Ready : State → List Place → Type 0
-  pub Part : State → List Place → State → Type 0
-  pub none : {s : State} {ps : List Place} → Ready s ps → Part s [] s
-  pub then : {s s' s'' : State} {ps qs : List Place} → Part s ps s' → Part s' qs s'' → Part s (ps ++ qs) s''
-  pub go_on : {s s' : State} {ps : List Place} (qs rs : List Place) → Ready s (ps ++ (qs ++ rs)) → Part s ps s' → Ready s' qs
+  pub all_done : {s' : S} → Going Part all [] s s' → Part s all s'
+  all_done {s' = s'} k = subst (λ (l : List Place). Part s l s') (sym (k.split ∙ append-nil k.done)) k.part
 
--- Stop s ps r: it stops within ps because of r, whatever comes behind
-pub record Stopping {State : Type 0} (w : Walk State) (Reason : Type 0) : Type 1 where
-  pub Stop : State → List Place → Reason → Type 0
-  pub behind : {s s' : State} {ps qs : List Place} {r : Reason} (rs : List Place) → w.Part s ps s' → Stop s' qs r → Stop s (ps ++ (qs ++ rs)) r
+  module _ {p : Place} {left : List Place} {s' : S} (k : Going Part all (one p ++ left) s s') where
+    pub turn : Ready s all → Ready s' (one p)
+    turn r = laws.go_on (one p) left (subst (λ (l : List Place). Ready s l) k.split r) k.part
 
-module _ {State : Type 0} (w : Walk State) where
-  pub part_as : {s s' : State} {ps qs : List Place} → ps ≡ qs → w.Part s ps s' → w.Part s qs s'
-  part_as {s} {s'} e m = subst (λ (l : List Place). w.Part s l s') e m
+    pub again : {s'' : S} → Part s' (one p) s'' → Going Part all left s s''
+    again m = record { done = k.done ++ one p; split = k.split ∙ sym (append_assoc k.done (one p) left); part = laws.then k.part m }
 
-  pub ready_as : {s : State} {ps qs : List Place} → ps ≡ qs → w.Ready s ps → w.Ready s qs
-  ready_as {s} e r = subst (λ (l : List Place). w.Ready s l) e r
+    pub stopping : {r : Reason} → Stop s' (one p) r → Stop s all r
+    stopping {r} m = subst (λ (l : List Place). Stop s l r) (sym k.split) (laws.behind left k.part m)
 
-  -- ---- a loop over g a, g (a + 1), ..
+module _ {S : Type 0} {Part : S → List Place → S → Type 0} {all : List Place} {s s' : S} where
+  left_as : {left left' : List Place} → left ≡ left' → Going Part all left s s' → Going Part all left' s s'
+  left_as e k = record { done = k.done; split = k.split ∙ ap (λ (l : List Place). k.done ++ l) e; part = k.part }
 
-  module _ (g : ℕ → List Place) where
-    pub begin : {s : State} {ps : List Place} (a n : ℕ) → n ≡ 0 → w.Ready s ps → w.Part s (join g a n) s
-    begin a n e r = part_as (sym (ap (join g a) e ∙ join_none g a)) (w.none r)
+  pub enter : {left behind : List Place} {g : ℕ → List Place} {i n : ℕ} → left ≡ join g i (n - i) → Going Part all (left ++ behind) s s' → Loop Part all g behind i n s s'
+  enter {behind = behind} e k = record { going = left_as (ap (λ (l : List Place). l ++ behind) e) k }
 
-    module _ {s s' : State} (a i z : ℕ) (e : a + i ≡ z) where
-      pub turn : (n : ℕ) → i < n → w.Ready s (join g a n) → w.Part s (join g a i) s' → w.Ready s' (g z)
-      turn n h r m = w.go_on (g z) (others g a i z e n) (ready_as (join_all g a i z e n h) r) m
+  module _ {g : ℕ → List Place} {behind : List Place} {i n : ℕ} (k : Loop Part all g behind i n s s') where
+    pub first : i < n → Going Part all (g i ++ (join g (i + 1) (n - (i + 1)) ++ behind)) s s'
+    first h = left_as (ap (λ (l : List Place). l ++ behind) (join_first g i (n - i) (n - (i + 1)) (omega arith)) ∙ append_assoc (g i) (join g (i + 1) (n - (i + 1))) behind) k.going
 
-      pub again : {s'' : State} (j : ℕ) → j ≡ i + 1 → w.Part s (join g a i) s' → w.Part s' (g z) s'' → w.Part s (join g a j) s''
-      again j h m m' = part_as (join_one g a i z e j h) (w.then m m')
-
-module _ {State Reason : Type 0} {w : Walk State} (t : Stopping w Reason) where
-  pub stop_as : {s : State} {ps qs : List Place} {r : Reason} → ps ≡ qs → t.Stop s ps r → t.Stop s qs r
-  stop_as {s} {r = r} e m = subst (λ (l : List Place). t.Stop s l r) e m
-
-  pub stopping : (g : ℕ → List Place) {s s' : State} (a i z : ℕ) → a + i ≡ z → {r : Reason} (n : ℕ) → i < n
-      → w.Part s (join g a i) s' → t.Stop s' (g z) r → t.Stop s (join g a n) r
-  stopping g a i z e n h m m' = stop_as (sym (join_all g a i z e n h)) (t.behind (others g a i z e n) m m')
+    pub leave : n ≤ i → Going Part all behind s s'
+    leave h = left_as (ap (λ (l : List Place). l ++ behind) (join_none g i (n - i) (omega arith))) k.going

@@ -1,20 +1,15 @@
 -- The rows by number: each lies in the image, and together they are the coding order.
-use mathlib.Core.Path.{◌≡◌, refl, sym, ◌∙◌, ap, ap₂}
-use mathlib.Core.Bool.{Bool, true, false, cond}
-use mathlib.Core.List.{List, ◌++◌}
-use Prim.Native.Nat.{ℕ, zero, suc, ◌+◌, ◌-◌, ◌*◌, ◌/◌, ◌%◌, ◌^◌, ◌<◌, ◌≤◌, min}
-use native.Mathlib.Nat.{suc-mul, mod-lt, div-lt_iff_lt-mul, le-div_iff_mul-le, mul-le-mul, div-le_self}
-use native.Mathlib.Omega.{arith}
+use Rattle.std.proofs.Common.{◌≡◌, refl, sym, ◌∙◌, ap, ap₂, Bool, true, false, cond, List, ◌++◌, ℕ, zero, suc, ◌+◌, ◌-◌, ◌*◌, ◌/◌, ◌%◌, ◌<◌, ◌≤◌, min, suc-mul, mod-lt, div-lt_iff_lt-mul, le-div_iff_mul-le, arith}
 use lib.Arith.{digits_div, digits_mod}
 use Rattle.settings.specs.declared.Image.{Image}
 use Rattle.settings.specs.Lists.{join}
 use Rattle.settings.specs.ListLaws.{join_append, join_shift, join_ext, join_last}
-use Rattle.body.specs.Order.{Place, row_of, band_sequential, sub_frames, frame_of, band_interleaved, order}
+use Rattle.body.specs.Order.{Place, column_of, row_of, band_sequential, sub_frames, frame_of, band_interleaved, order}
 use Rattle.body_value.specs.declared.plan.Plan.{Plan}
 use Rattle.body_value.specs.Plan.{Planned}
 use Rattle.body_value.proofs.Plans.{legal}
 use Rattle.body_walk.specs.declared.rows.Row.{Row}
-use Rattle.body_walk.specs.Rows.{row_count, row_at, places_in, InRow}
+use Rattle.body_walk.specs.Rows.{row_count, row_at, row_places, places_in, InRow}
 
 if_true : {A : Type 0} (c : Bool) (a b : A) → c ≡ true → cond c a b ≡ a
 if_true c a b e = ap (λ (x : Bool). cond x a b) e
@@ -75,43 +70,18 @@ module _ (I : Image) (n : ℕ) where
     frame_below k = (div-lt_iff_lt-mul some_frames).1 k
 
 -- the last sub-frame ends with the bands, the others have their depth
-module _ (I : Image) (n : ℕ) (e : I.sequential ≡ false) where
-  abbrev start : ℕ
-  start = n % sub_frames I.nz I.interleave * I.interleave
-
-  pub at_frame_last : 1 ≤ I.interleave → 0 < I.nz → I.nz - start < I.interleave
-      → row_at I n ≡ record { y = n / sub_frames I.nz I.interleave; from = n % sub_frames I.nz I.interleave * I.interleave; to = I.nz }
-  at_frame_last m z h =
-      let f = from_below I n m z in
-      let k : start + min I.interleave (I.nz - start) ≡ I.nz = omega arith in
-      at_frame I n e ∙ ap (λ (o : ℕ). record { y = n / sub_frames I.nz I.interleave; from = start; to = o }) k
-
-  pub at_frame_whole : I.interleave ≤ I.nz - start
-      → row_at I n ≡ record { y = n / sub_frames I.nz I.interleave; from = n % sub_frames I.nz I.interleave * I.interleave; to = n % sub_frames I.nz I.interleave * I.interleave + I.interleave }
-  at_frame_whole h =
-      let k : start + min I.interleave (I.nz - start) ≡ start + I.interleave = omega arith in
-      at_frame I n e ∙ ap (λ (o : ℕ). record { y = n / sub_frames I.nz I.interleave; from = start; to = o }) k
+pub at_frame_min : (I : Image) (n : ℕ) → I.sequential ≡ false → 1 ≤ I.interleave → 0 < I.nz → {to : ℕ}
+    → to ≡ min I.nz (n % sub_frames I.nz I.interleave * I.interleave + I.interleave)
+    → row_at I n ≡ record { y = n / sub_frames I.nz I.interleave; from = n % sub_frames I.nz I.interleave * I.interleave; to = to }
+at_frame_min I n e m z {to} h =
+    let start = n % sub_frames I.nz I.interleave * I.interleave in
+    let f = from_below I n m z in
+    let k : start + min I.interleave (I.nz - start) ≡ to = omega arith in
+    at_frame I n e ∙ ap (λ (o : ℕ). record { y = n / sub_frames I.nz I.interleave; from = start; to = o }) k
 
 module _ {P : Plan} (q : Planned P) where
   abbrev I : Image
   I = P.settings.image
-
-  pub bands_few : P.settings.image.nz * P.settings.image.ny ≤ 2 ^ 32
-  bands_few =
-      let a : I.nz ≤ 2 ^ 16 = let h = (legal q).image.nz_most in omega arith in
-      let b : I.ny ≤ 2 ^ 16 = let h = (legal q).image.ny_most in omega arith in
-      let m : I.nz * I.ny ≤ 2 ^ 16 * 2 ^ 16 = mul-le-mul a b in
-      omega arith
-
-  pub frames_few : P.settings.image.sequential ≡ false → P.settings.image.ny * sub_frames P.settings.image.nz P.settings.image.interleave ≤ 2 ^ 33
-  unfolding sub_frames
-  frames_few e =
-      let i = (legal q).image.interleaved e in
-      let a : I.ny ≤ 2 ^ 16 = let h = (legal q).image.ny_most in omega arith in
-      let c : (I.nz + I.interleave - 1) / I.interleave ≤ I.nz + I.interleave - 1 = div-le_self (I.nz + I.interleave - 1) I.interleave in
-      let b : (I.nz + I.interleave - 1) / I.interleave ≤ 2 ^ 17 = let h = (legal q).image.nz_most in omega arith in
-      let m : I.ny * ((I.nz + I.interleave - 1) / I.interleave) ≤ 2 ^ 16 * 2 ^ 17 = mul-le-mul a b in
-      omega arith
 
   pub row_in : (n : ℕ) → n < row_count P.settings.image → InRow P (row_at P.settings.image n)
   row_in n h = go I.sequential refl
@@ -174,3 +144,17 @@ module _ {P : Plan} (q : Planned P) where
           ∙ join_ext (λ y. join (λ i. row_of I.nx y (i * I.interleave) (min I.interleave (I.nz - i * I.interleave))) 0 g) (λ y. join (λ i. places_in I (y * g + i)) 0 g) I.ny
           (λ y _. join_ext (λ i. row_of I.nx y (i * I.interleave) (min I.interleave (I.nz - i * I.interleave))) (λ i. places_in I (y * g + i)) g (λ i h. frame_row_lem e y i h))
           ∙ nest (places_in I) g I.ny ∙ ap (join (places_in I) 0) (sym (count_frames I 0 e))
+
+-- ---- a row of the walk
+
+module _ {P : Plan} (q : Planned P) (n : ℕ) {r : Row} (e : r ≡ row_at P.settings.image n) where
+  -- its columns, by the width that the plan holds
+  pub columns_are : places_in P.settings.image n ≡ join (λ x. column_of (r.y * P.nx + x) r.from (r.to - r.from)) 0 (P.nx - 0)
+  unfolding places_in row_of
+  columns_are =
+      let w : P.settings.image.nx ≡ P.nx - 0 = let m = q.nx_is in omega arith in
+      ap (row_places P) (sym e) ∙ ap (join (λ x. column_of (r.y * P.settings.image.nx + x) r.from (r.to - r.from)) 0) w
+      ∙ ap (λ (m : ℕ). join (λ x. column_of (r.y * m + x) r.from (r.to - r.from)) 0 (P.nx - 0)) (sym q.nx_is)
+
+  pub row_inside : {count : ℕ} → n < count → count ≡ row_count P.settings.image → InRow P r
+  row_inside h k = rw e (row_in q n (omega arith))

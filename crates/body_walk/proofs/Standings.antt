@@ -1,24 +1,16 @@
 -- Where the bands stand: behind a place its band stands one further on; behind places, as behind one after the other.
-use mathlib.Core.Path.{◌≡◌, refl, sym, ◌∙◌, ap}
-use mathlib.Core.List.{List, [], ◌∷◌, ◌++◌}
-use Prim.Native.Nat.{ℕ, zero, suc, ◌+◌, ◌-◌, ◌*◌, ◌<◌, ◌≤◌}
+use Rattle.std.proofs.Common.{◌≡◌, sym, ◌∙◌, ap, List, [], ◌∷◌, ℕ, zero, suc, ◌+◌, ◌-◌, ◌*◌, ◌<◌, ◌≤◌, mul_comm, mul-le-mul_right, suc-mul, arith, ℤ, length, take, drop, length-take, length-drop, take_at, drop_at, length-take-le, take-take, drop-drop, eq-eqb, ne_eqb}
 use native.Mathlib.Decide.{ℕ_discrete}
-use native.Mathlib.Nat.{mul_comm, mul-le-mul_right, suc-mul}
-use native.Mathlib.Omega.{arith}
 use lib.Arith.{digits_lt, digits_mod}
-use lib.IntN.{ℤ}
-use lib.ListN.{length, take, drop, length-take, length-drop}
-use lib.Seq.{take-nil, take_at, drop_at, length-take-le, take-take, drop-drop}
-use borrow.Author.Tests.{eq-eqb, ne_eqb}
+use lib.Seq.{take-nil}
 use borrow.Rule.Slice.PartMut.{put_mid, take_put, drop_put, same_len_mid}
 use Rattle.settings.specs.Limits.{most_samples}
 use Rattle.settings.specs.declared.Settings.{Settings}
-use Rattle.settings.specs.Lists.{join}
 use Rattle.predictor.specs.Differences.{Image}
 use Rattle.predictor.specs.Band.{mapped_at}
 use Rattle.predictor.proofs.Causality.{weights_at_same, mapped_at_same}
 use Rattle.coder.specs.StatisticsLaws.{statistics_same}
-use Rattle.body.specs.Order.{Place, column_of, row_of}
+use Rattle.body.specs.Order.{Place}
 use Rattle.body_value.specs.declared.plan.Plan.{Plan}
 use Rattle.body_value.specs.declared.Place as value
 use Rattle.body_value.specs.Plan.{Planned, Inside}
@@ -26,7 +18,7 @@ use Rattle.body_value.specs.Value.{Fits, Held}
 use Rattle.body_value.proofs.Plans.{area_few}
 use Rattle.body_walk.specs.declared.rows.Row.{Row}
 use Rattle.body_walk.specs.Rows.{InRow, Strip}
-use Rattle.body_walk.specs.Standing.{part, Fit, Stand, Next, bump, after, Along}
+use Rattle.body_walk.specs.Standing.{part, Fit, Stand, Next, bump}
 
 pub bump_here : (f : ℕ → ℕ) (p : Place) (b : ℕ) → b ≡ p.z → bump f p b ≡ suc (f b)
 unfolding bump
@@ -35,24 +27,6 @@ bump_here f p b e = rw (eq-eqb b p.z e)
 pub bump_other : (f : ℕ → ℕ) (p : Place) (b : ℕ) → (b ≡ p.z → ⊥) → bump f p b ≡ f b
 unfolding bump
 bump_other f p b e = rw (ne_eqb b p.z e)
-
--- ---- places one after the other
-
-pub after_append : (f : ℕ → ℕ) (ps qs : List Place) → after f (ps ++ qs) ≡ after (after f ps) qs
-after_append f [] qs = refl
-after_append f (p ∷ ps) qs = after_append (bump f p) ps qs
-
-pub along_front : (f : ℕ → ℕ) (ps qs : List Place) → Along f (ps ++ qs) → Along f ps
-along_front f [] qs h = tt
-along_front f (p ∷ ps) qs h = (h.0, along_front (bump f p) ps qs h.1)
-
-pub along_behind : (f : ℕ → ℕ) (ps qs : List Place) → Along f (ps ++ qs) → Along (after f ps) qs
-along_behind f [] qs h = h
-along_behind f (p ∷ ps) qs h = along_behind (bump f p) ps qs h.1
-
-pub along_join : (f : ℕ → ℕ) (ps qs : List Place) → Along f ps → Along (after f ps) qs → Along f (ps ++ qs)
-along_join f [] qs h k = k
-along_join f (p ∷ ps) qs h k = (h.0, along_join (bump f p) ps qs h.1 k)
 
 -- ---- the slots of one band, lent and back
 
@@ -177,10 +151,8 @@ row_small {P} q {r} h =
     let i : suc r.y * P.settings.image.nx ≤ P.settings.image.ny * P.settings.image.nx = mul-le-mul_right P.settings.image.nx h.y_in in
     omega (arith, suc-mul r.y P.settings.image.nx, mul_comm P.settings.image.nx P.settings.image.ny)
 
--- a row's columns, by the width that the plan holds
-pub row_places_lem : {P : Plan} → Planned P → (y z n : ℕ) → row_of P.settings.image.nx y z n ≡ join (λ x. column_of (y * P.nx + x) z n) 0 P.nx
-unfolding row_of
-row_places_lem q y z n = ap (λ (m : ℕ). join (λ x. column_of (y * m + x) z n) 0 m) (sym q.nx_is)
-
 pub inside : {P : Plan} {first : value.Place} {to z : ℕ} → Strip P first to → z < to → Inside P (record { z = z; t = first.t; x = first.x })
 inside h k = record { band_in = let w = h.within in omega arith; place_in = h.place_in; column_is = h.column_is }
+
+pub inside_as : {P Q : Plan} {p : value.Place} → Q ≡ P → Inside P p → Inside Q p
+inside_as e h = rw e h

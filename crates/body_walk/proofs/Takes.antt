@@ -1,85 +1,19 @@
--- Parts of the reader's walk, one after the other, are the walk of their places together; where one stops, all stop.
-use mathlib.Core.Path.{◌≡◌, refl, sym, ◌∙◌}
-use mathlib.Core.Bool.{Bool}
-use mathlib.Core.List.{List, [], ◌++◌, append_assoc}
-use Prim.Native.Nat.{ℕ, ◌+◌, ◌-◌, ◌*◌}
-use native.Mathlib.Omega.{arith}
-use native.Mathlib.Numerals.{add-one}
-use lib.IntN.{ℤ}
-use lib.ListN.{length, take, drop, length-append}
+-- One value read: its band's slots are lent to it and come back.
+use Rattle.std.proofs.Common.{Result, Ok, Err, MatchResult, sym, ◌∙◌, Bool, List, ℕ, ◌+◌, ◌-◌, ◌*◌, arith, add-one, ℤ, take, drop}
 use borrow.Rule.Slice.PartMut.{put_mid}
 use Rattle.refusals.specs.declared.Refusal.{Refusal}
 use Rattle.predictor.specs.Differences.{image_of}
-use Rattle.body.specs.Order.{Place}
 use Rattle.body_value.specs.declared.plan.Plan.{Plan}
 use Rattle.body_value.specs.declared.Place as value
 use Rattle.body_value.specs.declared.Cursor.{Cursor}
-use Rattle.body_value.specs.declared.Step.{Step}
-use Rattle.body_value.specs.declared.Step.TheVariants.{On, Refused}
 use Rattle.body_value.specs.Plan.{Inside}
 use Rattle.body_value.specs.Value.{Held, Reading, Placed, Stepped}
 use Rattle.body_value.proofs.Plans.{legal}
 use Rattle.body_value.proofs.Values.{stored_other}
 use Rattle.body_walk.specs.Rows.{one_place}
-use Rattle.body_walk.specs.Standing.{Stand, after, Along}
-use Rattle.body_walk.specs.Reader.{ReaderState, reader_at, Readable, Took, Stops, Went}
-use Rattle.body_walk.proofs.Loops.{Walk, Stopping}
-use Rattle.body_walk.proofs.Standings.{after_append, along_front, along_behind, lent_is, back_fits, stands}
-
-module _ (P : Plan) (F : List Bool) where
-  -- nothing done
-  pub none : {s : ReaderState} {ps : List Place} → Readable P s ps → Took P F s [] s
-  none r = record {
-    image = r.image;
-    fit = r.fit;
-    few = omega arith;
-    next = omega arith;
-    inside = λ h. h;
-    means = λ tables f st a. (λ qs. refl, st);
-  }
-
-  -- one part behind the other
-  pub then : {s s' s'' : ReaderState} {ps qs : List Place} → Took P F s ps s' → Took P F s' qs s'' → Took P F s (ps ++ qs) s''
-  then {ps = ps} {qs = qs} a b = record {
-    image = b.image;
-    fit = b.fit;
-    few = rw (length-append ps qs) (let u = a.few in let v = b.few in omega arith);
-    next = rw (length-append ps qs) (let u = a.next in let v = b.next in omega arith);
-    inside = λ h. b.inside (a.inside h);
-    means = λ tables f st al.
-        let u = a.means tables f st (along_front f ps qs al) in
-        let v = b.means tables (after f ps) u.1 (along_behind f ps qs al) in
-        (λ rs. rw (append_assoc ps qs rs) (u.0 (qs ++ rs) ∙ v.0 rs), rw (after_append f ps qs) v.1);
-  }
-
-  -- the next of what is still to come
-  pub go_on : {s s' : ReaderState} {ps : List Place} (qs rs : List Place) → Readable P s (ps ++ (qs ++ rs)) → Took P F s ps s' → Readable P s' qs
-  go_on {ps = ps} qs rs r m =
-      let l : length (ps ++ (qs ++ rs)) ≡ length ps + (length qs + length rs) = rw (length-append ps (qs ++ rs), length-append qs rs) in
-      record {
-        plan = r.plan;
-        image = m.image;
-        fit = m.fit;
-        room = let u = r.room in let v = m.few in omega arith;
-        count = let u = r.count in let v = m.next in omega arith;
-      }
-
-  abbrev pub taking : Walk ReaderState
-  taking = record { Ready = Readable P; Part = Took P F; none = none; then = then; go_on = go_on }
-
-  -- the next stops, whatever comes behind it
-  pub stops_behind : {s s' : ReaderState} {ps qs : List Place} {r : Refusal} (rs : List Place) → Took P F s ps s' → Stops P F s' qs r → Stops P F s (ps ++ (qs ++ rs)) r
-  stops_behind {ps = ps} {qs = qs} rs a b = record {
-    means = λ tables f st al ts.
-        let u = a.means tables f st (along_front f ps (qs ++ rs) al) in
-        rw (append_assoc ps (qs ++ rs) ts, append_assoc qs rs ts)
-        (u.0 (qs ++ (rs ++ ts)) ∙ b.means tables (after f ps) u.1 (along_front (after f ps) qs rs (along_behind f ps (qs ++ rs) al)) (rs ++ ts));
-  }
-
-  abbrev pub refusing : Stopping taking Refusal
-  refusing = record { Stop = Stops P F; behind = stops_behind }
-
--- ---- one value
+use Rattle.body_walk.specs.Standing.{Stand, Along}
+use Rattle.body_walk.specs.Reader.{reader_at, Readable, Took, Stops}
+use Rattle.body_walk.proofs.Standings.{lent_is, back_fits, stands}
 
 module _ {P : Plan} {x s : List ℤ} {c : Cursor} {p : value.Place} (r : Readable P (reader_at x s c) (one_place p)) (h : Inside P p) where
   pub reading : Reading P x (take (32 * p.z + 32 - 32 * p.z) (drop (32 * p.z) s)) c p
@@ -118,7 +52,8 @@ module _ {P : Plan} {x s : List ℤ} {c : Cursor} {p : value.Place} (r : Readabl
           );
     }
 
-    pub stepped : (a : Step) → Stepped P F x (take (32 * p.z + 32 - 32 * p.z) (drop (32 * p.z) s)) c p x' l a
-        → Went P F (reader_at x s c) (one_place p) x' (put_mid (32 * p.z) (32 * p.z + 32 - 32 * p.z) s l) a
-    stepped (On c') w = took w
-    stepped (Refused q) w = record { means = λ tables f st al qs. w tables (held_here tables f st al) qs }
+    pub stepped : (a : Result Cursor Refusal) → Stepped P F x (take (32 * p.z + 32 - 32 * p.z) (drop (32 * p.z) s)) c p x' l a
+        → MatchResult a (λ c'. Took P F (reader_at x s c) (one_place p) (reader_at x' (put_mid (32 * p.z) (32 * p.z + 32 - 32 * p.z) s l) c'))
+        (λ q. Stops P F (reader_at x s c) (one_place p) q)
+    stepped (Ok c') w = took w
+    stepped (Err q) w = record { means = λ tables f st al qs. w tables (held_here tables f st al) qs }

@@ -1,5 +1,5 @@
 -- A part of the reader's walk: safe wherever scratch fits, and right wherever the bands stand there.
-use Rattle.std.specs.Prelude.{◌≡◌, Bool, List, ◌++◌, ℕ, ◌+◌, ◌*◌, ◌≤◌, ℤ, length, drop}
+use Rattle.std.specs.Prelude.{◌≡◌, Bool, List, ◌++◌, ℕ, ◌+◌, ◌*◌, ◌≤◌, ℤ, length, drop, Result, Ok, Err}
 use Rattle.settings.specs.Limits.{file_ceiling}
 use Rattle.refusals.specs.declared.Refusal.{Refusal}
 use Rattle.refusals.specs.Reading.{refused}
@@ -9,9 +9,8 @@ use Rattle.body.specs.Order.{Place}
 use Rattle.body.specs.Body.{read_body}
 use Rattle.body_value.specs.declared.plan.Plan.{Plan}
 use Rattle.body_value.specs.declared.Cursor.{Cursor}
-use Rattle.body_value.specs.declared.Step.{Step}
-use Rattle.body_value.specs.declared.Step.TheVariants.{On, Refused}
 use Rattle.body_value.specs.Plan.{Planned}
+use Rattle.body_walk.specs.Direction.{State}
 use Rattle.body_walk.specs.Standing.{Fit, Stand, after, Along}
 
 -- where a reader stands: the samples so far, the bands' slots, the position in the file
@@ -49,6 +48,20 @@ pub record Stops (P : Plan) (F : List Bool) (s : ReaderState) (ps : List Place) 
       → (qs : List Place) → read_body P.settings tables s.cursor.rank (ps ++ qs) s.samples (drop s.cursor.at F) ≡ refused r
 
 -- what an answer says
-abbrev pub Went : Plan → List Bool → ReaderState → List Place → List ℤ → List ℤ → Step → Type 0
-Went P F s ps samples' scratch' (On c) = Took P F s ps (reader_at samples' scratch' c)
-Went P F s ps samples' scratch' (Refused r) = Stops P F s ps r
+abbrev pub Went : Plan → List Bool → ReaderState → List Place → List ℤ → List ℤ → Result Cursor Refusal → Type 0
+Went P F s ps samples' scratch' (Ok c) = Took P F s ps (reader_at samples' scratch' c)
+Went P F s ps samples' scratch' (Err r) = Stops P F s ps r
+
+-- ---- as a direction of the walk
+
+abbrev pub reader_of : State ℤ Cursor → ReaderState
+reader_of s = reader_at s.filled s.scratch s.at
+
+abbrev pub reader_ready : Plan → State ℤ Cursor → List Place → Type 0
+reader_ready P s ps = Readable P (reader_of s) ps
+
+abbrev pub reader_part : Plan → List Bool → State ℤ Cursor → List Place → State ℤ Cursor → Type 0
+reader_part P F s ps s' = Took P F (reader_of s) ps (reader_of s')
+
+abbrev pub reader_stops : Plan → List Bool → State ℤ Cursor → List Place → Refusal → Type 0
+reader_stops P F s ps r = Stops P F (reader_of s) ps r

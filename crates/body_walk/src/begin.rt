@@ -11,11 +11,9 @@ pub fn begin_bands(p: Plan, tables: &[i32], scratch: &mut [i32])
     ensures { Begun p tables.now scratch.new p.settings.image.nz }
 {
     let nz = p.settings.image.nz as usize;
-    let mut z = 0;
-    while z < nz {
+    for z in 0..nz {
         let start = SCRATCH_STRIDE * z;
         let end = start + SCRATCH_STRIDE;
         begin_band(p, tables, &mut scratch[start..end], z);
-        z += 1;
     }
 }

@@ -2,6 +2,7 @@
 #![tactic(auto)]
 
 pub mod begin;
+pub mod direction;
 pub mod reader;
 pub mod rows;
 pub mod whole;

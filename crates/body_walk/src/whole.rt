@@ -8,8 +8,9 @@ use super::begin::begin_bands;
 use super::reader::read_rows;
 use super::writer::write_rows;
 use bitstream::write::Tail;
+use body_value::Cursor;
 use body_value::plan::Plan;
-use body_value::{Cursor, Step};
+use refusals::Refusal;
 
 // The body behind what is written.
 pub fn write_body(
@@ -35,7 +36,7 @@ pub fn read_body(
     at: usize,
     scratch: &mut [i32],
     image: &mut [i32],
-) -> Step
+) -> Result<Cursor, Refusal>
     requires { ReadStarts p tables.now image.old scratch.old at }
     ensures { Answer p.settings tables.now (unpack file.now) at image.old image.new result }
 {

@@ -4,12 +4,13 @@ ghost use Rattle.settings.specs.Checks.{areas_short, check_pack};
 
 use super::range::first_out;
 use super::tables::tables_legal;
-use refusals::{Checked, Refusal};
+use refusals::Refusal;
 use settings::Settings;
 use settings::legal::{limited, sample_count, settings_legal};
 use settings::tables::{SCRATCH_STRIDE, TABLE_STRIDE};
 
 // Scratch or the table area has too few slots for the bands.
+#[tactic(auto, unfolding(settings::specs::Checks::areas_short))]
 pub fn areas_short(s: Settings, scratch: usize, tables: usize) -> bool
     ensures { result ≡ areas_short s scratch tables }
 {
@@ -18,29 +19,33 @@ pub fn areas_short(s: Settings, scratch: usize, tables: usize) -> bool
 }
 
 // All that the writer tests before it makes a file. Both sizes are looked at once the plain settings are legal: then they fit.
-pub fn check_pack(s: Settings, tables: &[i32], samples: &[i32], scratch: usize) -> Checked
+pub fn check_pack(
+    s: Settings,
+    tables: &[i32],
+    samples: &[i32],
+    scratch: usize,
+) -> Result<(), Refusal>
     ensures { result ≡ check_pack s tables.now samples.now scratch }
 {
     if !settings_legal(s) {
-        return Checked::Refused(Refusal::IllegalSetting);
+        return Err(Refusal::IllegalSetting);
     }
     let small = limited(s.image);
     let counted = samples.len() as u64 == sample_count(s.image);
     if !small {
-        return Checked::Refused(Refusal::HouseLimit);
+        return Err(Refusal::HouseLimit);
     }
     if !counted {
-        return Checked::Refused(Refusal::WrongCount);
+        return Err(Refusal::WrongCount);
     }
     if areas_short(s, scratch, tables.len()) {
-        return Checked::Refused(Refusal::ShortArea);
+        return Err(Refusal::ShortArea);
     }
     if !tables_legal(s, tables) {
-        return Checked::Refused(Refusal::IllegalSetting);
+        return Err(Refusal::IllegalSetting);
     }
-    let first = first_out(s.image, samples);
-    if first < samples.len() {
-        return Checked::Refused(Refusal::SampleOutOfRange(first as u64));
+    if let Some(first) = first_out(s.image, samples) {
+        return Err(Refusal::SampleOutOfRange(first as u64));
     }
-    Checked::Passed
+    Ok(())
 }

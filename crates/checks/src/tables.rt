@@ -1,9 +1,10 @@
 // The table values that the settings use. What they do not use is not read.
 ghost use Rattle.std.specs.Prelude.{◌≡◌, true, not, ◌||◌, ◌+◌, ◌*◌, ◌≤◌, length};
+ghost use Rattle.std.specs.List.{list_all};
 ghost use Rattle.settings.specs.Legal.{settings_legal};
 ghost use Rattle.settings.specs.Tables.{table_stride, parameter_slot, entry, component_count, every, weight_legal, accumulator_legal, band_legal, tables_legal};
 
-use settings::range::power;
+use integers::power_of;
 use settings::tables::{PARAMETER_SLOT, TABLE_STRIDE, component_count};
 use settings::{Coder, Image, Predictor, Settings};
 
@@ -13,11 +14,12 @@ fn weight_legal(q: u32, v: i32) -> bool
     requires q_bound { q ≤ 31 }
     ensures { result ≡ weight_legal q v }
 {
-    let half = power(q - 1) as i32;
+    let half = power_of(q - 1) as i32;
     (-half <= v) & (v < half)
 }
 
 // 0 ≤ k' ≤ D − 2
+#[tactic(auto, unfolding(settings::specs::Tables::accumulator_legal))]
 fn accumulator_legal(depth: u32, v: i32) -> bool
     requires le_depth { 2 ≤ depth }
     requires depth_bound { depth ≤ 16 }
@@ -26,24 +28,13 @@ fn accumulator_legal(depth: u32, v: i32) -> bool
     (0 <= v) & (v <= (depth - 2) as i32)
 }
 
-// The first `count` slots of band z hold numbers of q bits.
-fn weights_legal(q: u32, tables: &[i32], z: usize, count: usize) -> bool
+// All of these are numbers of q bits.
+fn weights_legal(q: u32, weights: &[i32]) -> bool
     requires le_q { 1 ≤ q }
     requires q_bound { q ≤ 31 }
-    requires count_le_parameter_slot { count ≤ parameter_slot }
-    requires z_in_bounds { table_stride * (z + 1) ≤ length tables.now }
-    ensures { result ≡ every count (λ i. weight_legal q (entry tables.now z i)) }
+    ensures { result ≡ list_all (weight_legal q) weights.now }
 {
-    let base = TABLE_STRIDE * z;
-    let mut i = 0;
-    while i < count {
-        let at = base + i;
-        if !weight_legal(q, tables[at]) {
-            return false;
-        }
-        i += 1;
-    }
-    true
+    weights.iter().all(|v| weight_legal(q, *v))
 }
 
 // The weights of band z, which count only where they are custom: elsewhere the precision is arbitrary.
@@ -56,11 +47,13 @@ fn custom_legal(p: Predictor, tables: &[i32], z: usize) -> bool
     if !p.custom {
         return true;
     }
+    let base = TABLE_STRIDE * z;
     let count = component_count(p, z);
-    weights_legal(p.precision, tables, z, count)
+    weights_legal(p.precision, &tables[base..base + count])
 }
 
 // The k' of band z, which counts only where a table gives it.
+#[tactic(auto, unfolding(settings::specs::Tables::entry))]
 fn tabled_legal(i: Image, c: Coder, tables: &[i32], z: usize) -> bool
     requires le_depth { 2 ≤ i.depth }
     requires depth_bound { i.depth ≤ 16 }
@@ -90,12 +83,10 @@ pub fn tables_legal(s: Settings, tables: &[i32]) -> bool
     ensures { result ≡ tables_legal s tables.now }
 {
     let bands = s.image.nz as usize;
-    let mut z = 0;
-    while z < bands {
+    for z in 0..bands {
         if !band_legal(s, tables, z) {
             return false;
         }
-        z += 1;
     }
     true
 }

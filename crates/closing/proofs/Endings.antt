@@ -1,4 +1,5 @@
 -- Bits are the same as zeros exactly when their number is 0.
+use Rattle.std.specs.Prelude.{Result, Ok, Err, ⊤}
 use mathlib.Core.Path.{◌≡◌, refl, sym, ◌∙◌, ap, ap₂}
 use mathlib.Core.Bool.{Bool, true, false, cond, not, ◌&&◌, beq}
 use mathlib.Core.List.{List, [], ◌∷◌, ◌++◌}
@@ -15,8 +16,9 @@ use Rattle.bitstream.proofs.Laws.{bits_zero, bits_inj, filling_whole}
 use Rattle.bitstream.specs.Reader.{Sees}
 use Rattle.header.specs.Fields.{same}
 use Rattle.header.specs.FieldLaws.{same_true, same_refl}
-use Rattle.closing.specs.declared.ending.Ending.TheVariants.{Whole, TooShort, Behind}
 use Rattle.closing.specs.Ending.{end_of}
+use Rattle.closing.specs.declared.ending.WrongEnd.{WrongEnd}
+use Rattle.closing.specs.declared.ending.WrongEnd.TheVariants.{TooShort, Behind}
 use Rattle.bitstream.proofs.Laws.{whole_bytes}
 
 -- the w bits of a number below 2^w
@@ -76,11 +78,11 @@ module _ (word end n : ℕ) (F : List Bool) (size : length F ≡ 8 * n) (inside 
   left : length (drop end F) ≡ 8 * n - end
   left = length-drop end F ∙ ap (λ (x : ℕ). x - end) size
 
-  pub short_end : n < (end + fill) / 8 → TooShort ≡ end_of word end (drop end F)
+  pub short_end : n < (end + fill) / 8 → Err TooShort ≡ end_of word end (drop end F)
   unfolding end_of
   short_end h = sym (rw (lt-ltb (length (drop end F)) fill (rw left (omega (arith, whole)))))
 
-  pub long_end : (end + fill) / 8 < n → Behind ≡ end_of word end (drop end F)
+  pub long_end : (end + fill) / 8 < n → Err Behind ≡ end_of word end (drop end F)
   unfolding end_of
   long_end h =
       sym (rw (le-ltb (length (drop end F)) fill (rw left (omega (arith, whole))), lt-ltb fill (length (drop end F)) (rw left (omega (arith, whole)))))
@@ -102,14 +104,14 @@ module _ (word end n : ℕ) (F : List Bool) (size : length F ≡ 8 * n) (inside 
         ∙ same_append (take half (drop end F)) (drop half (drop end F)) (fill - half)
         ∙ ap₂ (λ (k : ℕ) (l : List Bool). same (take half (drop end F)) (zeros k) && same l (zeros (fill - half))) a b
 
-    decided : end_of word end (drop end F) ≡ cond (same (drop end F) (zeros fill)) Whole Behind
+    decided : end_of word end (drop end F) ≡ cond (same (drop end F) (zeros fill)) (Ok tt) (Err Behind)
     unfolding end_of
     decided = rw (le-ltb (length (drop end F)) fill (omega (arith, exact)), le-ltb fill (length (drop end F)) (omega (arith, exact))) (go (same (drop end F) (zeros fill)))
       where
-        go : (b : Bool) → cond (not b) Behind Whole ≡ cond b Whole Behind
+        go : (b : Bool) → ◌≡◌ {A = Result ⊤ WrongEnd} (cond (not b) (Err Behind) (Ok tt)) (cond b (Ok tt) (Err Behind))
         go true = refl
         go false = refl
 
     pub ends : (b c : Bool) → same (take half (drop end F)) (zeros half) ≡ b → same (take (fill - half) (drop (end + half) F)) (zeros (fill - half)) ≡ c
-        → cond (b && c) Whole Behind ≡ end_of word end (drop end F)
-    ends b c p q = sym (decided ∙ ap (λ (x : Bool). cond x Whole Behind) (halves ∙ ap₂ (λ (x y : Bool). x && y) p q))
+        → cond (b && c) (Ok tt) (Err Behind) ≡ end_of word end (drop end F)
+    ends b c p q = sym (decided ∙ ap (λ (x : Bool). cond x (Ok tt) (Err Behind)) (halves ∙ ap₂ (λ (x y : Bool). x && y) p q))

@@ -6,10 +6,9 @@ ghost use Rattle.closing.specs.Ending.{end_of};
 
 use bitstream::read::window;
 
-// What stands behind the body.
+// Why a file does not end where its fill does: it ends before, or something else stands there or behind.
 #[derive(Clone, Copy)]
-pub enum Ending {
-    Whole,
+pub enum WrongEnd {
     TooShort,
     Behind,
 }
@@ -26,7 +25,7 @@ fn zero_field(file: &[u8], at: usize, count: u32) -> bool
 }
 
 // What stands behind the body, which ends at bit `end`. Lengths are compared in bytes: in bits a slice's may not fit a word.
-pub fn end_of(file: &[u8], end: usize, word: u32) -> Ending
+pub fn end_of(file: &[u8], end: usize, word: u32) -> Result<(), WrongEnd>
     requires { (1 ≤ word) × (word ≤ 8) × (end ≤ 2 ^ 61) × (end ≤ length (unpack file.now)) }
     ensures { result ≡ end_of word end (drop end (unpack file.now)) }
 {
@@ -34,16 +33,16 @@ pub fn end_of(file: &[u8], end: usize, word: u32) -> Ending
     let fill = ((unit - end % unit) % unit) as u32;
     let last = (end + fill as usize) / 8;
     if file.len() < last {
-        return Ending::TooShort;
+        return Err(WrongEnd::TooShort);
     }
     if last < file.len() {
-        return Ending::Behind;
+        return Err(WrongEnd::Behind);
     }
     let half = fill / 2;
     if zero_field(file, end, half) {
         if zero_field(file, end + half as usize, fill - half) {
-            return Ending::Whole;
+            return Ok(());
         }
     }
-    Ending::Behind
+    Err(WrongEnd::Behind)
 }

@@ -2,7 +2,7 @@
 use mathlib.Core.Path.{◌≡◌, sym, ◌∙◌, ap}
 use mathlib.Core.Bool.{false}
 use mathlib.Core.List.{List, [], ◌++◌}
-use Prim.Native.Nat.{ℕ, ◌+◌, ◌*◌, ◌/◌, ◌^◌, ◌<◌, ◌≤◌}
+use Prim.Native.Nat.{ℕ, ◌+◌, ◌*◌, ◌/◌, ◌^◌, ◌≤◌}
 use native.Mathlib.Nat.{mul-div_right}
 use native.Mathlib.Omega.{arith}
 use lib.IntN.{ℤ}
@@ -51,12 +51,11 @@ file_written S tables samples {t0} {t1} {t2} {t3} {o} {o1} {o2} {o3} {o4} n star
 -- ---- what each step asks for
 
 pub fine_starts : (S : Settings) (P : Plan) (tables samples scratch scratch' : List ℤ) (k : Tail) → Fine S tables samples (length scratch) → P ≡ plan_of S
-    → length scratch' ≡ length scratch → k.count < 32 → k.at ≤ 2 ^ 32 → Starts P tables samples scratch' k
+    → length scratch' ≡ length scratch → k.at ≤ 2 ^ 32 → Starts P tables samples scratch' k
 unfolding plan_of
-fine_starts S P tables samples scratch scratch' k f p l c a = rw p (record {
+fine_starts S P tables samples scratch scratch' k f p l a = rw p (record {
   tabled = record { plan = planned S f.legal f.small; values = f.values; area = f.room.tables_hold; long = let h = f.room.scratch_holds in omega arith };
   image = record { legal = f.legal; within = f.small; long = f.counted; ranged = all_in_range S.image samples f.in_range_lem };
-  count = c;
   at = a;
 })
 

@@ -1,4 +1,5 @@
 -- What opening comes to, step by step behind the header.
+use Rattle.std.specs.Prelude.{Result, Ok, Err, is_err, ⊤}
 use mathlib.Core.Path.{◌≡◌, refl, sym, ◌∙◌, ap, subst}
 use mathlib.Core.Bool.{Bool, true, false, cond, false≢true}
 use mathlib.Core.List.{List, [], ◌∷◌, ◌++◌}
@@ -36,27 +37,23 @@ use Rattle.body_value.proofs.Plans.{planned}
 use Rattle.body_walk.specs.Whole.{ReadStarts, Answer}
 use Rattle.predictor.specs.Differences.{image_of}
 use Rattle.body.specs.Body.{codes, mapped_off, restored, read_body}
-use Rattle.cube.specs.declared.Opened.{Opened}
-use Rattle.cube.specs.declared.Opened.TheVariants as opening
-use Rattle.closing.specs.declared.ending.Ending.{Ending}
-use Rattle.closing.specs.declared.ending.Ending.TheVariants.{Whole, TooShort, Behind}
 use Rattle.cube.specs.Open.{Cube, Lent, at_end, behind_header, opened_bits, opened}
 use Rattle.closing.specs.Ending.{end_of}
 use Rattle.cube.specs.Ending.{ended, at_end_is}
-use Rattle.cube.specs.Opening.{end_answer, answer_of, is_refused, Reached, Lendable}
+use Rattle.cube.specs.Opening.{end_answer, answer_of, Reached, Lendable}
 use Rattle.body_value.specs.declared.Cursor.{Cursor}
-use Rattle.body_value.specs.declared.Step.{Step}
-use Rattle.body_value.specs.declared.Step.TheVariants as step
 use Rattle.cube.specs.Answers.{opened_number, opened_value}
 use Rattle.cube.specs.Areas.{open_answer, image_after, tables_after, lent_of, Opens}
 use Rattle.cube.specs.ValueLaws.{header_keeps}
 use Rattle.cube.specs.FileLaws.{zeros_good, deep}
+use Rattle.closing.specs.declared.ending.WrongEnd.TheVariants.{TooShort, Behind}
+use Rattle.closing.specs.declared.ending.WrongEnd.{WrongEnd}
 use Rattle.cube.specs.SizeLaws.{codes_most}
 
 -- ---- an answer and its areas
 
 -- what was read gives the answer and both areas
-pub opens_as : (bytes : List ℕ) (scratch tables image : List ℤ) (x : Read Cube) {r : Opened} {t i : List ℤ} → opened (lent_of scratch tables image) bytes ≡ x
+pub opens_as : (bytes : List ℕ) (scratch tables image : List ℤ) (x : Read Cube) {r : Result Settings Refusal} {t i : List ℤ} → opened (lent_of scratch tables image) bytes ≡ x
     → r ≡ open_answer x → t ≡ tables_after x tables → i ≡ image_after x image → Opens bytes scratch tables image r t i
 opens_as bytes scratch tables image x e a b c = record {
   answer = a ∙ ap open_answer (sym e);
@@ -68,14 +65,14 @@ opens_as bytes scratch tables image x e a b c = record {
 
 -- a refusal that touches nothing, and one that clears
 pub opens_untouched : (bytes : List ℕ) (scratch tables image : List ℤ) (w : Refusal) → clears w ≡ false → opened (lent_of scratch tables image) bytes ≡ refused w
-    → Opens bytes scratch tables image (opening.Refused w) tables image
+    → Opens bytes scratch tables image (Err w) tables image
 unfolding open_answer tables_after image_after
 opens_untouched bytes scratch tables image w k e =
     opens_as bytes scratch tables image (refused w) e refl
     (sym (ap (λ (b : Bool). cond b (replicate (length tables) (pos 0)) tables) k)) (sym (ap (λ (b : Bool). cond b (replicate (length image) (pos 0)) image) k))
 
 pub opens_cleared : (bytes : List ℕ) (scratch tables image : List ℤ) (w : Refusal) {t i : List ℤ} → clears w ≡ true → opened (lent_of scratch tables image) bytes ≡ refused w
-    → t ≡ replicate (length tables) (pos 0) → i ≡ replicate (length image) (pos 0) → Opens bytes scratch tables image (opening.Refused w) t i
+    → t ≡ replicate (length tables) (pos 0) → i ≡ replicate (length image) (pos 0) → Opens bytes scratch tables image (Err w) t i
 unfolding open_answer tables_after image_after
 opens_cleared bytes scratch tables image w k e p q =
     opens_as bytes scratch tables image (refused w) e refl
@@ -84,7 +81,7 @@ opens_cleared bytes scratch tables image w k e p q =
 -- ---- the header refused
 
 pub opens_no_header : (bytes : List ℕ) (scratch tables image : List ℤ) (w : Refusal) → read_header (unpack bytes) ≡ refused w
-    → Opens bytes scratch tables image (opening.Refused w) tables image
+    → Opens bytes scratch tables image (Err w) tables image
 unfolding opened opened_bits
 opens_no_header bytes scratch tables image w e =
     opens_untouched bytes scratch tables image w (header_keeps (unpack bytes) w e) (ap (λ (x : Read Header). and_then x (behind_header (lent_of scratch tables image) (length (unpack bytes)))) e)
@@ -102,12 +99,12 @@ module _ (bytes : List ℕ) (scratch tables image : List ℤ) (h : Header) (at :
   unfolding opened opened_bits
   behind = ap (λ (x : Read Header). and_then x (behind_header lent (length F))) e
 
-  pub opens_short_image : length image < sample_count h.settings.image → Opens bytes scratch tables image (opening.Refused WrongCount) tables image
+  pub opens_short_image : length image < sample_count h.settings.image → Opens bytes scratch tables image (Err WrongCount) tables image
   unfolding behind_header clears first_hit
   opens_short_image l = opens_untouched bytes scratch tables image WrongCount refl (behind ∙ rw (lt-ltb (length image) (sample_count h.settings.image) l))
 
   pub opens_short_area : sample_count h.settings.image ≤ length image → areas_short h.settings (length scratch) (length tables) ≡ true
-      → Opens bytes scratch tables image (opening.Refused ShortArea) tables image
+      → Opens bytes scratch tables image (Err ShortArea) tables image
   unfolding behind_header clears first_hit
   opens_short_area l k =
       opens_untouched bytes scratch tables image ShortArea refl
@@ -156,17 +153,17 @@ module _ (bytes : List ℕ) (scratch tables image : List ℤ) (S : Settings) (at
   same_count : sample_count b.header.settings.image ≡ sample_count S.image
   same_count = ap (λ (T : Settings). sample_count T.image) b.settings
 
-  pub begun_short_image : length image < sample_count S.image → Opens bytes scratch tables image (opening.Refused WrongCount) tables image
+  pub begun_short_image : length image < sample_count S.image → Opens bytes scratch tables image (Err WrongCount) tables image
   begun_short_image l = opens_short_image bytes scratch tables image b.header at b.read (rw same_count l)
 
   pub begun_short_area : sample_count S.image ≤ length image → areas_short S (length scratch) (length tables) ≡ true
-      → Opens bytes scratch tables image (opening.Refused ShortArea) tables image
+      → Opens bytes scratch tables image (Err ShortArea) tables image
   begun_short_area l k =
       opens_short_area bytes scratch tables image b.header at b.read (rw same_count l) (ap (λ (T : Settings). areas_short T (length scratch) (length tables)) b.settings ∙ k)
 
 -- ---- the answer for what the body came to
 
-pub answered : (S : Settings) (F : List Bool) (g : Step) (c : Cursor) (x e : Ending) → g ≡ step.On c → x ≡ end_of S.image.word c.at (drop c.at F) → x ≡ e → end_answer S e ≡ answer_of S F g
+pub answered : (S : Settings) (F : List Bool) (g : Result Cursor Refusal) (c : Cursor) (x e : Result ⊤ WrongEnd) → g ≡ Ok c → x ≡ end_of S.image.word c.at (drop c.at F) → x ≡ e → end_answer S e ≡ answer_of S F g
 unfolding answer_of
 answered S F g c x e p q r = ap (end_answer S) (sym r ∙ q) ∙ sym (ap (answer_of S F) p)
 
@@ -186,34 +183,34 @@ body_clears S tables n (p ∷ ps) x l w e = go (λ y r. body_clears S tables (su
     go rec bad e = let k : BadCodeword n ≡ w = cc in subst (λ (v : Refusal). clears v ≡ true) k refl
 
 -- what body and end came to, g with the samples x, settles the whole
-pub record Outcome (bytes : List ℕ) (lent : Lent) (S : Settings) (T x : List ℤ) (g : Step) : Type 0 where
+pub record Outcome (bytes : List ℕ) (lent : Lent) (S : Settings) (T x : List ℤ) (g : Result Cursor Refusal) : Type 0 where
   pub reached : Reached (unpack bytes) g
   pub answer : answer_of S (unpack bytes) g ≡ open_answer (opened lent bytes)
-  pub whole : is_refused (answer_of S (unpack bytes) g) ≡ false → opened lent bytes ≡ got (record { settings = S; tables = T; samples = x }) []
-  pub refusal : is_refused (answer_of S (unpack bytes) g) ≡ true → (w : Refusal) × (opened lent bytes ≡ refused w) × (clears w ≡ true)
+  pub whole : is_err (answer_of S (unpack bytes) g) ≡ false → opened lent bytes ≡ got (record { settings = S; tables = T; samples = x }) []
+  pub refusal : is_err (answer_of S (unpack bytes) g) ≡ true → (w : Refusal) × (opened lent bytes ≡ refused w) × (clears w ≡ true)
 
 module _ (bytes : List ℕ) (scratch tables image : List ℤ) (h : Header) (at : ℕ) (e : read_header (unpack bytes) ≡ got h (drop at (unpack bytes))) (fits : at ≤ length (unpack bytes))
     (room : sample_count h.settings.image ≤ length image) (roomy : Roomy h.settings (length scratch) (length tables)) where
   -- the three endings
-  by_end : (x : List ℤ) (c : Cursor) (E : Ending) → Reached (unpack bytes) (step.On c) → end_of h.settings.image.word c.at (drop c.at (unpack bytes)) ≡ E
-      → opened (lent_of scratch tables image) bytes ≡ ended h x E → Outcome bytes (lent_of scratch tables image) h.settings h.tables x (step.On c)
-  unfolding answer_of end_answer is_refused open_answer ended clears
-  by_end x c Whole r k o = record {
+  by_end : (x : List ℤ) (c : Cursor) (E : Result ⊤ WrongEnd) → Reached (unpack bytes) (Ok c) → end_of h.settings.image.word c.at (drop c.at (unpack bytes)) ≡ E
+      → opened (lent_of scratch tables image) bytes ≡ ended h x E → Outcome bytes (lent_of scratch tables image) h.settings h.tables x (Ok c)
+  unfolding answer_of end_answer open_answer ended clears
+  by_end x c (Ok tt) r k o = record {
     reached = r;
     answer = ap (end_answer h.settings) k ∙ sym (ap open_answer o);
     whole = λ _. o;
-    refusal = λ q. let z : false ≡ true = sym (ap (λ (E : Ending). is_refused (end_answer h.settings E)) k) ∙ q in absurd (false≢true z);
+    refusal = λ q. let z : false ≡ true = sym (ap (λ (E : Result ⊤ WrongEnd). is_err (end_answer h.settings E)) k) ∙ q in absurd (false≢true z);
   }
-  by_end x c TooShort r k o = record {
+  by_end x c (Err TooShort) r k o = record {
     reached = r;
     answer = ap (end_answer h.settings) k ∙ sym (ap open_answer o);
-    whole = λ q. let z : true ≡ false = sym (ap (λ (E : Ending). is_refused (end_answer h.settings E)) k) ∙ q in absurd (false≢true (sym z));
+    whole = λ q. let z : true ≡ false = sym (ap (λ (E : Result ⊤ WrongEnd). is_err (end_answer h.settings E)) k) ∙ q in absurd (false≢true (sym z));
     refusal = λ _. (BodyEnds (sample_count h.settings.image), o, refl);
   }
-  by_end x c Behind r k o = record {
+  by_end x c (Err Behind) r k o = record {
     reached = r;
     answer = ap (end_answer h.settings) k ∙ sym (ap open_answer o);
-    whole = λ q. let z : true ≡ false = sym (ap (λ (E : Ending). is_refused (end_answer h.settings E)) k) ∙ q in absurd (false≢true (sym z));
+    whole = λ q. let z : true ≡ false = sym (ap (λ (E : Result ⊤ WrongEnd). is_err (end_answer h.settings E)) k) ∙ q in absurd (false≢true (sym z));
     refusal = λ _. (AfterEnd (sample_count h.settings.image), o, refl);
   }
 
@@ -244,14 +241,14 @@ module _ (bytes : List ℕ) (scratch tables image : List ℤ) (h : Header) (at :
       let s = position_small in
       omega arith
 
-  pub outcome : (x : List ℤ) (g : Step) → Answer h.settings h.tables (unpack bytes) at (replicate (sample_count h.settings.image) (pos 0)) x g
+  pub outcome : (x : List ℤ) (g : Result Cursor Refusal) → Answer h.settings h.tables (unpack bytes) at (replicate (sample_count h.settings.image) (pos 0)) x g
       → Outcome bytes (lent_of scratch tables image) h.settings h.tables x g
-  unfolding answer_of is_refused open_answer clears
-  outcome x (step.On c) w =
+  unfolding answer_of open_answer clears
+  outcome x (Ok c) w =
       let l : c.at ≤ length (unpack bytes) = w.inside fits in
       by_end x c (end_of h.settings.image.word c.at (drop c.at (unpack bytes))) (l, body_position x c.at l w.read) refl
       (arrived bytes scratch tables image h at e room roomy x c.at l w.read)
-  outcome x (step.Refused r) w =
+  outcome x (Err r) w =
       let o = stopped bytes scratch tables image h at e room roomy r w in
       record {
         reached = tt;
@@ -333,7 +330,7 @@ module _ (bytes : List ℕ) (scratch tables image : List ℤ) (S : Settings) (at
           at_most = let k = position_small bytes scratch tables image h at b.read b.fits h_room h_roomy in omega arith;
         })
 
-    pub begun_outcome : (P : Plan) → P ≡ plan_of S → (x : List ℤ) (g : Step) → Answer P.settings (take m t1) (unpack bytes) at (take n (z ++ drop n image)) x g
+    pub begun_outcome : (P : Plan) → P ≡ plan_of S → (x : List ℤ) (g : Result Cursor Refusal) → Answer P.settings (take m t1) (unpack bytes) at (take n (z ++ drop n image)) x g
         → Outcome bytes (lent_of scratch tables image) S h.tables x g
     unfolding plan_of
     begun_outcome P p x g a =
@@ -352,8 +349,8 @@ module _ (bytes : List ℕ) (scratch tables image : List ℤ) (S : Settings) (at
         omega arith
 
     -- all read: the areas hold tables and samples, and behind them what they held
-    pub opens_done : (x : List ℤ) (g : Step) (r : Opened) → Outcome bytes (lent_of scratch tables image) S h.tables x g → length x ≡ n
-        → r ≡ answer_of S (unpack bytes) g → is_refused (answer_of S (unpack bytes) g) ≡ false → Opens bytes scratch tables image r t1 (x ++ drop n (z ++ drop n image))
+    pub opens_done : (x : List ℤ) (g : Result Cursor Refusal) (r : Result Settings Refusal) → Outcome bytes (lent_of scratch tables image) S h.tables x g → length x ≡ n
+        → r ≡ answer_of S (unpack bytes) g → is_err (answer_of S (unpack bytes) g) ≡ false → Opens bytes scratch tables image r t1 (x ++ drop n (z ++ drop n image))
     unfolding tables_after image_after
     opens_done x g r o l a k =
         opens_as bytes scratch tables image (got (record { settings = S; tables = h.tables; samples = x }) []) (o.whole k)
@@ -362,10 +359,10 @@ module _ (bytes : List ℕ) (scratch tables image : List ℤ) (S : Settings) (at
         (ap (λ (y : List ℤ). x ++ y) (drop_at z (drop n image) n (ap length z_is ∙ length-replicate n (pos 0)) ∙ ap (λ (j : ℕ). drop j image) (sym l)))
 
   -- refused: both areas are cleared whole
-  pub opens_refused : (T x t i : List ℤ) (g : Step) (r : Opened) → Outcome bytes (lent_of scratch tables image) S T x g → r ≡ answer_of S (unpack bytes) g
-      → is_refused (answer_of S (unpack bytes) g) ≡ true → t ≡ replicate (length tables) (pos 0) → i ≡ replicate (length image) (pos 0) → Opens bytes scratch tables image r t i
+  pub opens_refused : (T x t i : List ℤ) (g : Result Cursor Refusal) (r : Result Settings Refusal) → Outcome bytes (lent_of scratch tables image) S T x g → r ≡ answer_of S (unpack bytes) g
+      → is_err (answer_of S (unpack bytes) g) ≡ true → t ≡ replicate (length tables) (pos 0) → i ≡ replicate (length image) (pos 0) → Opens bytes scratch tables image r t i
   unfolding open_answer
   opens_refused T x t i g r o a k p q =
       let w = o.refusal k in
-      let e : r ≡ opening.Refused w.0 = a ∙ o.answer ∙ ap open_answer w.1 in
-      subst (λ (y : Opened). Opens bytes scratch tables image y t i) (sym e) (opens_cleared bytes scratch tables image w.0 w.2 w.1 p q)
+      let e : r ≡ Err w.0 = a ∙ o.answer ∙ ap open_answer w.1 in
+      subst (λ (y : Result Settings Refusal). Opens bytes scratch tables image y t i) (sym e) (opens_cleared bytes scratch tables image w.0 w.2 w.1 p q)

@@ -1,13 +1,9 @@
 -- What the public calls answer, and what each lent area holds afterwards (document 01, "When the recorder says no").
-use Rattle.std.specs.Prelude.{◌≡◌, cond, List, ◌++◌, ℕ, ℤ, pos, length, drop, replicate}
+use Rattle.std.specs.Prelude.{◌≡◌, cond, List, ◌++◌, ℕ, ℤ, pos, length, drop, replicate, Result, Ok, Err}
 use Rattle.refusals.specs.declared.Refusal.{Refusal}
 use Rattle.refusals.specs.Refusals.{clears}
 use Rattle.refusals.specs.Reading.{Read, got, refused}
 use Rattle.settings.specs.declared.Settings.{Settings}
-use Rattle.cube.specs.declared.Packed.{Packed}
-use Rattle.cube.specs.declared.Packed.TheVariants as packing
-use Rattle.cube.specs.declared.Opened.{Opened}
-use Rattle.cube.specs.declared.Opened.TheVariants as opening
 use Rattle.cube.specs.File.{file, length_answer, packed}
 use Rattle.cube.specs.Open.{Cube, Lent, opened}
 use Rattle.cube.specs.Look.{looked}
@@ -24,16 +20,16 @@ after_refusal zero w l = cond (clears w) (replicate (length l) zero) l
 -- ---- pack
 
 -- the output that held l
-unfoldable pub out_after : Settings → List ℤ → List ℤ → Packed → List ℕ → List ℕ
-out_after S tables samples (packing.Length n) l = filled_from (file S tables samples) l
-out_after S tables samples (packing.Refused w) l = after_refusal 0 w l
+unfoldable pub out_after : Settings → List ℤ → List ℤ → Result ℕ Refusal → List ℕ → List ℕ
+out_after S tables samples (Ok n) l = filled_from (file S tables samples) l
+out_after S tables samples (Err w) l = after_refusal 0 w l
 
 -- ---- open
 
 -- the answer to what is read
-unfoldable pub open_answer : Read Cube → Opened
-open_answer (got c r) = opening.Settings c.settings
-open_answer (refused w) = opening.Refused w
+unfoldable pub open_answer : Read Cube → Result Settings Refusal
+open_answer (got c r) = Ok c.settings
+open_answer (refused w) = Err w
 
 -- the image area that held l
 unfoldable pub image_after : Read Cube → List ℤ → List ℤ
@@ -52,20 +48,20 @@ lent_of scratch tables image = record { scratch = length scratch; tables = lengt
 -- ---- the calls' statements, each with document 01's number and value
 
 -- pack: what it answers, and what the output holds
-pub record Packs (S : Settings) (tables samples scratch : List ℤ) (out : List ℕ) (r : Packed) (out' : List ℕ) : Type 0 where
+pub record Packs (S : Settings) (tables samples scratch : List ℤ) (out : List ℕ) (r : Result ℕ Refusal) (out' : List ℕ) : Type 0 where
   pub answer : r ≡ packed S tables samples (length scratch) (length out)
   pub number_is : packed_number r ≡ packed_number (packed S tables samples (length scratch) (length out))
   pub value_is : packed_value r ≡ packed_value (packed S tables samples (length scratch) (length out))
   pub output : out' ≡ out_after S tables samples (packed S tables samples (length scratch) (length out)) out
 
 -- length: what it answers
-pub record Lengths (S : Settings) (tables samples scratch : List ℤ) (r : Packed) : Type 0 where
+pub record Lengths (S : Settings) (tables samples scratch : List ℤ) (r : Result ℕ Refusal) : Type 0 where
   pub answer : r ≡ length_answer S tables samples (length scratch)
   pub number_is : packed_number r ≡ packed_number (length_answer S tables samples (length scratch))
   pub value_is : packed_value r ≡ packed_value (length_answer S tables samples (length scratch))
 
 -- open: what it answers, and what the table and image areas hold
-pub record Opens (bytes : List ℕ) (scratch tables image : List ℤ) (r : Opened) (tables' image' : List ℤ) : Type 0 where
+pub record Opens (bytes : List ℕ) (scratch tables image : List ℤ) (r : Result Settings Refusal) (tables' image' : List ℤ) : Type 0 where
   pub answer : r ≡ open_answer (opened (lent_of scratch tables image) bytes)
   pub number_is : opened_number r ≡ opened_number (open_answer (opened (lent_of scratch tables image) bytes))
   pub value_is : opened_value r ≡ opened_value (open_answer (opened (lent_of scratch tables image) bytes))
@@ -73,7 +69,7 @@ pub record Opens (bytes : List ℕ) (scratch tables image : List ℤ) (r : Opene
   pub image_area : image' ≡ image_after (opened (lent_of scratch tables image) bytes) image
 
 -- look: what it answers
-pub record Looks (bytes : List ℕ) (r : Opened) : Type 0 where
+pub record Looks (bytes : List ℕ) (r : Result Settings Refusal) : Type 0 where
   pub answer : r ≡ looked bytes
   pub number_is : opened_number r ≡ opened_number (looked bytes)
   pub value_is : looked_value r ≡ looked_value (looked bytes)

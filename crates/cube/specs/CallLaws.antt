@@ -1,6 +1,7 @@
 -- Each call refuses with the numbers of its own list alone: every test and every step of its definition carries one of them.
 use Rattle.std.proofs.Math.Path.{◌≡◌, refl, subst}
-use Rattle.std.proofs.Common.{sym, ◌∙◌, arith}
+use Rattle.std.specs.Prelude.{⊤}
+use Rattle.std.proofs.Common.{sym, ◌∙◌, arith, Result, Ok, Err}
 use Rattle.std.specs.Prelude.{Bool, ℕ, suc, ℤ, length, ltb}
 use Rattle.std.proofs.Math.Bool.{true, false, cond}
 use mathlib.Core.List.{List, [], ◌∷◌}
@@ -8,8 +9,6 @@ use Rattle.bitstream.specs.Stream.{Parsed, ok, short, bad, unpack}
 use Rattle.settings.specs.declared.Settings.{Settings}
 use Rattle.refusals.specs.declared.Refusal.{Refusal}
 use Rattle.refusals.specs.declared.Refusal.TheVariants.{IllegalSetting, SampleOutOfRange, WrongCount, HouseLimit, ShortArea, NoRoom, BodyEnds, BadCodeword, AfterEnd}
-use Rattle.refusals.specs.declared.Checked.{Checked}
-use Rattle.refusals.specs.declared.Checked.TheVariants as checking
 use Rattle.refusals.specs.Refusals.{number}
 use Rattle.refusals.specs.Tests.{Test, first_hit}
 use Rattle.settings.specs.Checks.{check_pack}
@@ -18,8 +17,6 @@ use Rattle.predictor.specs.Differences.{image_of}
 use Rattle.header.specs.Read.{Header, read_header}
 use Rattle.body.specs.Order.{Place}
 use Rattle.body.specs.Body.{mapped_off, restored, read_body}
-use Rattle.cube.specs.declared.Packed.{Packed}
-use Rattle.cube.specs.declared.Packed.TheVariants as packing
 use Rattle.cube.specs.File.{file, length_answer, packed}
 use Rattle.cube.specs.Open.{Lent, at_end, behind_header, opened_bits, opened}
 use Rattle.refusals.specs.Calls.{among, length_refuses, pack_refuses, open_refuses, look_refuses}
@@ -32,50 +29,50 @@ Listed l w = among l (number w) ≡ true
 -- ---- pack and length
 
 module _ (Q : Refusal → Type 0) where
-  pub hit_tests : (ts : List Test) (w : Refusal) → Tests Q ts → first_hit ts ≡ checking.Refused w → Q w
+  pub hit_tests : (ts : List Test) (w : Refusal) → Tests Q ts → first_hit ts ≡ Err w → Q w
   unfolding first_hit
   hit_tests [] w h e = let z : ◌≡◌ {A = ℕ} 0 1 = cc in absurd (omega arith)
   hit_tests (t ∷ ts) w h e = go t.fails (hit_tests ts w h.1) e
     where
-      go : (b : Bool) → (first_hit ts ≡ checking.Refused w → Q w) → cond b (checking.Refused t.refusal) (first_hit ts) ≡ checking.Refused w → Q w
+      go : (b : Bool) → (first_hit ts ≡ Err w → Q w) → cond b (Err t.refusal) (first_hit ts) ≡ Err w → Q w
       go true f q = let k : t.refusal ≡ w = cc in subst Q k h.0
       go false f q = f q
 
 module _ (S : Settings) (tables samples : List ℤ) (scratch : ℕ) where
   -- the writer's tests carry 1, 4, 3, 5, 1 and 2
   length_refuses_lem : (Q : Refusal → Type 0) → Q IllegalSetting → Q HouseLimit → Q WrongCount → Q ShortArea → ((n : ℕ) → Q (SampleOutOfRange n))
-      → (w : Refusal) → length_answer S tables samples scratch ≡ packing.Refused w → Q w
+      → (w : Refusal) → length_answer S tables samples scratch ≡ Err w → Q w
   unfolding length_answer check_pack
   length_refuses_lem Q q1 q4 q3 q5 q2 w e = go (check_pack S tables samples scratch) refl
     where
-      go : (x : Checked) → check_pack S tables samples scratch ≡ x → Q w
-      go checking.Passed p =
-          let k : length_answer S tables samples scratch ≡ packing.Length (length (file S tables samples)) = rw p in
+      go : (x : Result ⊤ Refusal) → check_pack S tables samples scratch ≡ x → Q w
+      go (Ok tt) p =
+          let k : length_answer S tables samples scratch ≡ Ok (length (file S tables samples)) = rw p in
           let z : ◌≡◌ {A = ℕ} 0 1 = cc in
           absurd (omega arith)
-      go (checking.Refused v) p =
-          let k : length_answer S tables samples scratch ≡ packing.Refused v = rw p in
+      go (Err v) p =
+          let k : length_answer S tables samples scratch ≡ Err v = rw p in
           let m : v ≡ w = cc in
           subst Q m (hit_tests Q _ v (q1, (q4, (q3, (q5, (q1, (q2 _, tt)))))) p)
 
-  pub length_listed : (w : Refusal) → length_answer S tables samples scratch ≡ packing.Refused w → Listed length_refuses w
+  pub length_listed : (w : Refusal) → length_answer S tables samples scratch ≡ Err w → Listed length_refuses w
   unfolding among number
   length_listed = length_refuses_lem (Listed length_refuses) refl refl refl refl (λ n. refl)
 
-  pub packed_listed : (room : ℕ) (w : Refusal) → packed S tables samples scratch room ≡ packing.Refused w → Listed pack_refuses w
+  pub packed_listed : (room : ℕ) (w : Refusal) → packed S tables samples scratch room ≡ Err w → Listed pack_refuses w
   unfolding packed among number
   packed_listed room w e = go (length_answer S tables samples scratch) refl
     where
-      by_room : (n : ℕ) (b : Bool) → cond b (packing.Refused (NoRoom n)) (packing.Length n) ≡ packing.Refused w → Listed pack_refuses w
+      by_room : (n : ℕ) (b : Bool) → cond b (Err (NoRoom n)) (Ok n) ≡ Err w → Listed pack_refuses w
       by_room n true q = let k : NoRoom n ≡ w = cc in subst (Listed pack_refuses) k refl
       by_room n false q = let z : ◌≡◌ {A = ℕ} 0 1 = cc in absurd (omega arith)
 
-      go : (x : Packed) → length_answer S tables samples scratch ≡ x → Listed pack_refuses w
-      go (packing.Length n) p =
-          let k : packed S tables samples scratch room ≡ cond (ltb room n) (packing.Refused (NoRoom n)) (packing.Length n) = rw p in
+      go : (x : Result ℕ Refusal) → length_answer S tables samples scratch ≡ x → Listed pack_refuses w
+      go (Ok n) p =
+          let k : packed S tables samples scratch room ≡ cond (ltb room n) (Err (NoRoom n)) (Ok n) = rw p in
           by_room n (ltb room n) (sym k ∙ e)
-      go (packing.Refused v) p =
-          let k : packed S tables samples scratch room ≡ packing.Refused v = rw p in
+      go (Err v) p =
+          let k : packed S tables samples scratch room ≡ Err v = rw p in
           let m : v ≡ w = cc in
           subst (Listed pack_refuses) m (length_refuses_lem (Listed pack_refuses) refl refl refl refl (λ n. refl) v p)
 

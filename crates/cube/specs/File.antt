@@ -1,15 +1,12 @@
 -- The file: header, body and fill (5.2), and what packing answers.
-use Rattle.std.specs.Prelude.{Bool, cond, List, ◌++◌, ℕ, ◌*◌, ℤ, length, ltb}
+use Rattle.std.specs.Prelude.{Bool, cond, List, ◌++◌, ℕ, ◌*◌, ℤ, length, ltb, Result, Ok, Err, ⊤}
 use Rattle.bitstream.specs.Stream.{pack, filled}
 use Rattle.refusals.specs.declared.Refusal.TheVariants.{NoRoom}
-use Rattle.refusals.specs.declared.Checked.{Checked}
-use Rattle.refusals.specs.declared.Checked.TheVariants.{Passed, Refused}
 use Rattle.settings.specs.declared.Settings.{Settings}
 use Rattle.settings.specs.Checks.{check_pack}
 use Rattle.header.specs.Write.{header}
+use Rattle.refusals.specs.declared.Refusal.{Refusal}
 use Rattle.body.specs.Body.{body}
-use Rattle.cube.specs.declared.Packed.{Packed}
-use Rattle.cube.specs.declared.Packed.TheVariants as answer
 
 -- header and body, and zeros up to a multiple of B bytes (5.2.2, 5.4.3.2.3.5)
 unfoldable pub file_bits : Settings → List ℤ → List ℤ → List Bool
@@ -22,17 +19,17 @@ file S tables samples = pack (file_bits S tables samples)
 -- ---- what packing answers, with scratch of so many slots
 
 -- the file's length, unless a test fails
-unfoldable pub length_answer : Settings → List ℤ → List ℤ → ℕ → Packed
+unfoldable pub length_answer : Settings → List ℤ → List ℤ → ℕ → Result ℕ Refusal
 length_answer S tables samples scratch = answered (check_pack S tables samples scratch)
   where
-    answered : Checked → Packed
-    answered Passed = answer.Length (length (file S tables samples))
-    answered (Refused r) = answer.Refused r
+    answered : Result ⊤ Refusal → Result ℕ Refusal
+    answered (Ok tt) = Ok (length (file S tables samples))
+    answered (Err r) = Err r
 
 -- into so many bytes
-unfoldable pub packed : Settings → List ℤ → List ℤ → ℕ → ℕ → Packed
+unfoldable pub packed : Settings → List ℤ → List ℤ → ℕ → ℕ → Result ℕ Refusal
 packed S tables samples scratch room = fitted (length_answer S tables samples scratch)
   where
-    fitted : Packed → Packed
-    fitted (answer.Length n) = cond (ltb room n) (answer.Refused (NoRoom n)) (answer.Length n)
-    fitted (answer.Refused r) = answer.Refused r
+    fitted : Result ℕ Refusal → Result ℕ Refusal
+    fitted (Ok n) = cond (ltb room n) (Err (NoRoom n)) (Ok n)
+    fitted (Err r) = Err r

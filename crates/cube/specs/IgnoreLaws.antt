@@ -1,12 +1,10 @@
 -- Packing looks at no setting that is none and at no table slot that is not used: its tests and its file are those of the settings and slots in use.
-use Rattle.std.specs.Prelude.{◌≡◌, Bool, true, false, cond, not, ◌&&◌, ◌||◌, List, [], ◌∷◌, ◌++◌, ℕ, zero, suc, ◌+◌, ◌*◌, ◌<◌, ◌≤◌, ℤ, pos, length}
+use Rattle.std.specs.Prelude.{◌≡◌, Bool, true, false, cond, not, ◌&&◌, ◌||◌, List, [], ◌∷◌, ◌++◌, ℕ, zero, suc, ◌+◌, ◌*◌, ◌<◌, ◌≤◌, ℤ, pos, length, Result, Ok, Err, ⊤}
 use Rattle.std.proofs.Math.Path.{refl, sym, ap}
 use Rattle.std.proofs.Common.{◌∙◌, ap₂, mul-le-mul_left, mul-suc, arith}
 use Rattle.std.proofs.Math.ListN.{get_or-append}
 use Rattle.bitstream.specs.Stream.{pack}
 use Rattle.settings.specs.declared.Settings.{Settings}
-use Rattle.refusals.specs.declared.Checked.{Checked}
-use Rattle.refusals.specs.declared.Checked.TheVariants as checking
 use Rattle.refusals.specs.declared.Refusal.TheVariants.{IllegalSetting}
 use Rattle.settings.specs.Legal.{settings_legal, limited, sample_count}
 use Rattle.settings.specs.LegalLaws.{legal_settings}
@@ -20,11 +18,10 @@ use Rattle.header.specs.Tables.{used, used_tables}
 use Rattle.header.specs.TableLaws.{entry_slots, slots_ext}
 use Rattle.header.specs.Write.{used_settings}
 use Rattle.header.specs.HeaderLaws.{used_legal, tables_legal_used}
-use Rattle.cube.specs.declared.Packed.{Packed}
-use Rattle.cube.specs.declared.Packed.TheVariants as packing
 use Rattle.cube.specs.File.{file, length_answer, packed}
 use Rattle.cube.specs.Areas.{out_after}
 use Rattle.cube.specs.UsedLaws.{weight_used, accumulator_used}
+use Rattle.refusals.specs.declared.Refusal.{Refusal}
 use Rattle.cube.specs.FileLaws.{count_used, range_used, file_bits_used}
 
 -- ---- table values
@@ -113,12 +110,12 @@ module _ (S S' : Settings) (T T' samples : List ℤ) (n n' : ℕ) (same : used_s
     unfolding length_answer
     length_same = go (check_pack S' T' samples n') check_same refl
       where
-        go : (x : Checked) → check_pack S T samples n ≡ x → check_pack S' T' samples n' ≡ x → length_answer S T samples n ≡ length_answer S' T' samples n'
-        go checking.Passed p q = rw (p, q, file_same)
-        go (checking.Refused w) p q = rw (p, q)
+        go : (x : Result ⊤ Refusal) → check_pack S T samples n ≡ x → check_pack S' T' samples n' ≡ x → length_answer S T samples n ≡ length_answer S' T' samples n'
+        go (Ok tt) p q = rw (p, q, file_same)
+        go (Err w) p q = rw (p, q)
 
   -- settings that are illegal are refused first
-  illegal : (R : Settings) (t : List ℤ) (k : ℕ) → settings_legal R ≡ false → length_answer R t samples k ≡ packing.Refused IllegalSetting
+  illegal : (R : Settings) (t : List ℤ) (k : ℕ) → settings_legal R ≡ false → length_answer R t samples k ≡ Err IllegalSetting
   unfolding length_answer check_pack first_hit
   illegal R t k e = rw e
 
@@ -133,18 +130,18 @@ module _ (S S' : Settings) (T T' samples : List ℤ) (n n' : ℕ) (same : used_s
   unfolding packed
   packed_ignores room = go (length_answer S' T' samples n') length_ignores refl
     where
-      go : (x : Packed) → length_answer S T samples n ≡ x → length_answer S' T' samples n' ≡ x → packed S T samples n room ≡ packed S' T' samples n' room
-      go (packing.Length m) p q = rw (p, q)
-      go (packing.Refused w) p q = rw (p, q)
+      go : (x : Result ℕ Refusal) → length_answer S T samples n ≡ x → length_answer S' T' samples n' ≡ x → packed S T samples n room ≡ packed S' T' samples n' room
+      go (Ok m) p q = rw (p, q)
+      go (Err w) p q = rw (p, q)
 
   -- and so is what the output holds
   pub output_ignores : (room : ℕ) (out : List ℕ) → out_after S T samples (packed S T samples n room) out ≡ out_after S' T' samples (packed S' T' samples n' room) out
   unfolding out_after packed
-  output_ignores room out = ap (λ (x : Packed). out_after S T samples x out) (packed_ignores room) ∙ go (settings_legal S) refl
+  output_ignores room out = ap (λ (x : Result ℕ Refusal). out_after S T samples x out) (packed_ignores room) ∙ go (settings_legal S) refl
     where
-      by_answer : file S T samples ≡ file S' T' samples → (x : Packed) → out_after S T samples x out ≡ out_after S' T' samples x out
-      by_answer e (packing.Length m) = rw e
-      by_answer e (packing.Refused w) = refl
+      by_answer : file S T samples ≡ file S' T' samples → (x : Result ℕ Refusal) → out_after S T samples x out ≡ out_after S' T' samples x out
+      by_answer e (Ok m) = rw e
+      by_answer e (Err w) = refl
 
       go : (b : Bool) → settings_legal S ≡ b → out_after S T samples (packed S' T' samples n' room) out ≡ out_after S' T' samples (packed S' T' samples n' room) out
       go true e = by_answer (file_same e) (packed S' T' samples n' room)

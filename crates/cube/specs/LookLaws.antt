@@ -1,5 +1,5 @@
 -- The look's answer is that of the header's reader, which opening goes through first.
-use Rattle.std.specs.Prelude.{◌≡◌, Bool, List, ℕ, ◌-◌, ℤ, pos, length, replicate}
+use Rattle.std.specs.Prelude.{◌≡◌, Bool, List, ℕ, ◌-◌, ℤ, pos, length, replicate, Result, Ok, Err}
 use Rattle.std.proofs.Common.{sym, ap, ◌∙◌, arith}
 use Rattle.bitstream.specs.Stream.{unpack}
 use Rattle.refusals.specs.declared.Refusal.{Refusal}
@@ -11,23 +11,21 @@ use Rattle.body.specs.Order.{order}
 use Rattle.body.specs.Body.{read_body}
 use Rattle.header.specs.Read.{Header, read_header}
 use Rattle.header_reader.specs.Answers.{Begins}
-use Rattle.cube.specs.declared.Opened.{Opened}
-use Rattle.cube.specs.declared.Opened.TheVariants as opening
 use Rattle.cube.specs.Look.{look_answer, looked}
 use Rattle.cube.specs.Answers.{opened_number, looked_value}
 use Rattle.cube.specs.Areas.{Looks}
 use Rattle.cube.specs.Open.{Cube, Lent, at_end, behind_header, opened_bits, opened}
 
 -- the answer makes the statement: number and value are the answer's
-looks_as : (bytes : List ℕ) {r : Opened} → r ≡ looked bytes → Looks bytes r
+looks_as : (bytes : List ℕ) {r : Result Settings Refusal} → r ≡ looked bytes → Looks bytes r
 looks_as bytes e = record { answer = e; number_is = ap opened_number e; value_is = ap looked_value e }
 
 -- a file that begins with a header of some settings shows these
-pub look_settings : (bytes : List ℕ) (S : Settings) (at : ℕ) → Begins (unpack bytes) S at → Looks bytes (opening.Settings S)
+pub look_settings : (bytes : List ℕ) (S : Settings) (at : ℕ) → Begins (unpack bytes) S at → Looks bytes (Ok S)
 unfolding looked look_answer
-look_settings bytes S at b = looks_as bytes (sym (ap look_answer b.read ∙ ap opening.Settings b.settings))
+look_settings bytes S at b = looks_as bytes (sym (ap look_answer b.read ∙ ap Ok b.settings))
 
-pub look_refused : (bytes : List ℕ) (why : Refusal) → read_header (unpack bytes) ≡ refused why → Looks bytes (opening.Refused why)
+pub look_refused : (bytes : List ℕ) (why : Refusal) → read_header (unpack bytes) ≡ refused why → Looks bytes (Err why)
 unfolding looked look_answer
 look_refused bytes why e = looks_as bytes (sym (ap look_answer e))
 
@@ -69,9 +67,9 @@ opened_headed lent bytes c r e =
     record { header = s.value; behind = s.behind; read = s.first; settings = behind_settings lent _ s.value s.behind c r s.then }
 
 -- so the look shows what opening answers
-pub looked_opened : (lent : Lent) (bytes : List ℕ) (c : Cube) (r : List Bool) → opened lent bytes ≡ got c r → looked bytes ≡ opening.Settings c.settings
+pub looked_opened : (lent : Lent) (bytes : List ℕ) (c : Cube) (r : List Bool) → opened lent bytes ≡ got c r → looked bytes ≡ Ok c.settings
 unfolding looked look_answer
-looked_opened lent bytes c r e = let h = opened_headed lent bytes c r e in ap look_answer h.read ∙ ap opening.Settings h.settings
+looked_opened lent bytes c r e = let h = opened_headed lent bytes c r e in ap look_answer h.read ∙ ap Ok h.settings
 
 -- a header's refusal is also the file's
 pub header_refused : (lent : Lent) (bytes : List ℕ) (w : Refusal) → read_header (unpack bytes) ≡ refused w → opened lent bytes ≡ refused w
@@ -79,10 +77,10 @@ unfolding opened opened_bits
 header_refused lent bytes w e = rw e
 
 -- what the look refuses, the header's reader does
-pub looked_refused : (bytes : List ℕ) (w : Refusal) → looked bytes ≡ opening.Refused w → read_header (unpack bytes) ≡ refused w
+pub looked_refused : (bytes : List ℕ) (w : Refusal) → looked bytes ≡ Err w → read_header (unpack bytes) ≡ refused w
 unfolding looked look_answer
 looked_refused bytes w = go (read_header (unpack bytes))
   where
-    go : (x : Read Header) → look_answer x ≡ opening.Refused w → x ≡ refused w
+    go : (x : Read Header) → look_answer x ≡ Err w → x ≡ refused w
     go (got h r) e = let z : ◌≡◌ {A = ℕ} 0 1 = cc in absurd (omega arith)
     go (refused v) e = cc

@@ -1,5 +1,5 @@
 -- Opening, as its caller sees it: the answer tells what was read, and the areas hold the tables and the samples from their start on.
-use Rattle.std.specs.Prelude.{◌≡◌, refl, Bool, List, ℕ, ◌*◌, ◌≤◌, ℤ, length, take}
+use Rattle.std.specs.Prelude.{◌≡◌, refl, Bool, List, ℕ, ◌*◌, ◌≤◌, ℤ, length, take, Result, Ok, Err}
 use Rattle.std.proofs.Common.{sym, ◌∙◌, ap, ap₂, subst, arith, length-append, take_at}
 use Rattle.bitstream.specs.Stream.{Bytes}
 use Rattle.settings.specs.declared.Settings.{Settings}
@@ -12,8 +12,6 @@ use Rattle.refusals.specs.Reading.{Read, got, refused}
 use Rattle.header.specs.Tables.{used_tables}
 use Rattle.header.specs.Write.{used_settings}
 use Rattle.body.specs.BodyLaws.{Good}
-use Rattle.cube.specs.declared.Opened.{Opened}
-use Rattle.cube.specs.declared.Opened.TheVariants as opening
 use Rattle.cube.specs.File.{file}
 use Rattle.cube.specs.Open.{Cube, opened}
 use Rattle.cube.specs.Areas.{filled_from, open_answer, image_after, tables_after, lent_of, Opens}
@@ -24,21 +22,21 @@ use Rattle.cube.specs.PackLaws.{allowed_fine}
 
 -- ---- the answer tells what was read
 
-pub answer_refused : (x : Read Cube) (w : Refusal) → open_answer x ≡ opening.Refused w → x ≡ refused w
+pub answer_refused : (x : Read Cube) (w : Refusal) → open_answer x ≡ Err w → x ≡ refused w
 unfolding open_answer
 answer_refused (got c r) w e = let z : ◌≡◌ {A = ℕ} 0 1 = cc in absurd (omega arith)
 answer_refused (refused v) w e = cc
 
-pub answer_settings : (x : Read Cube) (S : Settings) → open_answer x ≡ opening.Settings S → (c : Cube) × (l : List Bool) × (x ≡ got c l) × (c.settings ≡ S)
+pub answer_settings : (x : Read Cube) (S : Settings) → open_answer x ≡ Ok S → (c : Cube) × (l : List Bool) × (x ≡ got c l) × (c.settings ≡ S)
 unfolding open_answer
 answer_settings (got c r) S e = (c, r, refl, cc)
 answer_settings (refused v) S e = let z : ◌≡◌ {A = ℕ} 0 1 = cc in absurd (omega arith)
 
 -- ---- a file opens to what was packed, and what opens is a file
 
-pub opens_allowed : {bytes : List ℕ} {scratch area image : List ℤ} {r : Opened} {t i : List ℤ} → Opens bytes scratch area image r t i
+pub opens_allowed : {bytes : List ℕ} {scratch area image : List ℤ} {r : Result Settings Refusal} {t i : List ℤ} → Opens bytes scratch area image r t i
     → (S : Settings) (tables samples : List ℤ) → Allowed S tables samples → Enough S (lent_of scratch area image) → file S tables samples ≡ bytes
-    → (r ≡ opening.Settings (used_settings S)) × (t ≡ filled_from (used_tables S tables) area) × (i ≡ filled_from samples image)
+    → (r ≡ Ok (used_settings S)) × (t ≡ filled_from (used_tables S tables) area) × (i ≡ filled_from samples image)
 unfolding open_answer tables_after image_after
 opens_allowed {bytes} {scratch} {area} {image} p S tables samples a m f =
     let lent = lent_of scratch area image in
@@ -46,8 +44,8 @@ opens_allowed {bytes} {scratch} {area} {image} p S tables samples a m f =
     ap (opened lent) (sym f) ∙ opened_file S tables samples lent a.legal a.within a.entries a.good m in
     (p.answer ∙ ap open_answer e, p.table_area ∙ ap (λ (x : Read Cube). tables_after x area) e, p.image_area ∙ ap (λ (x : Read Cube). image_after x image) e)
 
-pub opens_file : {bytes : List ℕ} {scratch area image : List ℤ} {r : Opened} {t i : List ℤ} → Bytes bytes → Opens bytes scratch area image r t i
-    → (S : Settings) → r ≡ opening.Settings S → (tables : List ℤ) × (samples : List ℤ) × OpenedTo bytes S tables samples area image t i
+pub opens_file : {bytes : List ℕ} {scratch area image : List ℤ} {r : Result Settings Refusal} {t i : List ℤ} → Bytes bytes → Opens bytes scratch area image r t i
+    → (S : Settings) → r ≡ Ok S → (tables : List ℤ) × (samples : List ℤ) × OpenedTo bytes S tables samples area image t i
 unfolding tables_after image_after
 opens_file {bytes} {scratch} {area} {image} {r} {t} {i} o p S e =
     let a = answer_settings (opened (lent_of scratch area image) bytes) S (sym p.answer ∙ e) in

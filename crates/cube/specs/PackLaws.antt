@@ -1,6 +1,7 @@
 -- Packing answers with the file's length where all tests pass and it fits, with 6 where all pass and it does not, and never otherwise.
 use Rattle.std.proofs.Math.Path.{◌≡◌, refl, sym, subst}
-use Rattle.std.proofs.Common.{◌∙◌, arith}
+use Rattle.std.specs.Prelude.{⊤}
+use Rattle.std.proofs.Common.{◌∙◌, arith, Result, Ok, Err}
 use Rattle.std.specs.Prelude.{Bool, List, ℕ, ◌<◌, ◌≤◌, ℤ, pos, get_or}
 use Rattle.std.proofs.Math.Bool.{true, false, cond}
 use Rattle.std.proofs.Math.Decide.{dec_lt}
@@ -10,16 +11,12 @@ use borrow.Author.Tests.{lt-ltb, le-ltb, ltb-true, ltb-false}
 use Rattle.settings.specs.declared.Settings.{Settings}
 use Rattle.refusals.specs.declared.Refusal.{Refusal}
 use Rattle.refusals.specs.declared.Refusal.TheVariants.{NoRoom}
-use Rattle.refusals.specs.declared.Checked.{Checked}
-use Rattle.refusals.specs.declared.Checked.TheVariants as checking
 use Rattle.settings.specs.LegalLaws.{legal_settings}
 use Rattle.settings.specs.Range.{in_range}
 use Rattle.settings.specs.RangeLaws.{zero_in_range, all_in_range, first_out_of_all}
 use Rattle.refusals.specs.Refusals.{number}
 use Rattle.settings.specs.Checks.{check_pack}
 use Rattle.settings.specs.CheckLaws.{Fine, Roomy, fine, fine_passes}
-use Rattle.cube.specs.declared.Packed.{Packed}
-use Rattle.cube.specs.declared.Packed.TheVariants as packing
 use Rattle.cube.specs.File.{file, length_answer, packed}
 use Rattle.cube.specs.Terms.{Allowed}
 use Rattle.refusals.specs.Calls.{among, length_refuses}
@@ -49,38 +46,38 @@ module _ (S : Settings) (tables samples : List ℤ) (scratch : ℕ) where
 
   -- ---- the length count
 
-  pub length_fine : Fine S tables samples scratch → length_answer S tables samples scratch ≡ packing.Length (length (file S tables samples))
+  pub length_fine : Fine S tables samples scratch → length_answer S tables samples scratch ≡ Ok (length (file S tables samples))
   unfolding length_answer
   length_fine f = rw (fine_passes S tables samples scratch f)
 
-  pub length_only : (n : ℕ) → length_answer S tables samples scratch ≡ packing.Length n → Fine S tables samples scratch × (n ≡ length (file S tables samples))
+  pub length_only : (n : ℕ) → length_answer S tables samples scratch ≡ Ok n → Fine S tables samples scratch × (n ≡ length (file S tables samples))
   unfolding length_answer
   length_only n e = go (check_pack S tables samples scratch) refl
     where
-      go : (x : Checked) → check_pack S tables samples scratch ≡ x → Fine S tables samples scratch × (n ≡ length (file S tables samples))
-      go checking.Passed p = let f = fine S tables samples scratch p in let k = length_fine f in (f, cc)
-      go (checking.Refused w) p =
-          let k : length_answer S tables samples scratch ≡ packing.Refused w = rw p in
+      go : (x : Result ⊤ Refusal) → check_pack S tables samples scratch ≡ x → Fine S tables samples scratch × (n ≡ length (file S tables samples))
+      go (Ok tt) p = let f = fine S tables samples scratch p in let k = length_fine f in (f, cc)
+      go (Err w) p =
+          let k : length_answer S tables samples scratch ≡ Err w = rw p in
           let z : ◌≡◌ {A = ℕ} 0 1 = cc in
           absurd (omega arith)
 
   -- ---- packing into so many bytes
 
   module _ (room : ℕ) where
-    pub packed_fits : Fine S tables samples scratch → length (file S tables samples) ≤ room → packed S tables samples scratch room ≡ packing.Length (length (file S tables samples))
+    pub packed_fits : Fine S tables samples scratch → length (file S tables samples) ≤ room → packed S tables samples scratch room ≡ Ok (length (file S tables samples))
     unfolding packed
     packed_fits f h = rw (length_fine f, le-ltb room (length (file S tables samples)) h)
 
-    pub packed_too_long : Fine S tables samples scratch → room < length (file S tables samples) → packed S tables samples scratch room ≡ packing.Refused (NoRoom (length (file S tables samples)))
+    pub packed_too_long : Fine S tables samples scratch → room < length (file S tables samples) → packed S tables samples scratch room ≡ Err (NoRoom (length (file S tables samples)))
     unfolding packed
     packed_too_long f h = rw (length_fine f, lt-ltb room (length (file S tables samples)) h)
 
-    by_length : (x : Packed) → length_answer S tables samples scratch ≡ x
-        → ((n : ℕ) → packed S tables samples scratch room ≡ packing.Length n → Fine S tables samples scratch × (n ≡ length (file S tables samples)) × (n ≤ room))
-        × ((n : ℕ) → packed S tables samples scratch room ≡ packing.Refused (NoRoom n) → Fine S tables samples scratch × (n ≡ length (file S tables samples)) × (room < n))
+    by_length : (x : Result ℕ Refusal) → length_answer S tables samples scratch ≡ x
+        → ((n : ℕ) → packed S tables samples scratch room ≡ Ok n → Fine S tables samples scratch × (n ≡ length (file S tables samples)) × (n ≤ room))
+        × ((n : ℕ) → packed S tables samples scratch room ≡ Err (NoRoom n) → Fine S tables samples scratch × (n ≡ length (file S tables samples)) × (room < n))
     unfolding packed among number
-    by_length (packing.Refused w) p =
-        let k : packed S tables samples scratch room ≡ packing.Refused w = rw p in (
+    by_length (Err w) p =
+        let k : packed S tables samples scratch room ≡ Err w = rw p in (
           λ n e. let z : ◌≡◌ {A = ℕ} 0 1 = cc in absurd (omega arith),
           λ n e.
               let m : w ≡ NoRoom n = cc in
@@ -88,20 +85,20 @@ module _ (S : Settings) (tables samples : List ℤ) (scratch : ℕ) where
               let z : ◌≡◌ {A = ℕ} 0 1 = cc in
               absurd (omega arith),
         )
-    by_length (packing.Length m) p = let k : packed S tables samples scratch room ≡ cond (ltb room m) (packing.Refused (NoRoom m)) (packing.Length m) = rw p in let f = length_only m p in (λ n e. fits n (ltb room m) refl (sym k ∙ e), λ n e. over n (ltb room m) refl (sym k ∙ e))
+    by_length (Ok m) p = let k : packed S tables samples scratch room ≡ cond (ltb room m) (Err (NoRoom m)) (Ok m) = rw p in let f = length_only m p in (λ n e. fits n (ltb room m) refl (sym k ∙ e), λ n e. over n (ltb room m) refl (sym k ∙ e))
       where
-        fits : (n : ℕ) (b : Bool) → ltb room m ≡ b → cond b (packing.Refused (NoRoom m)) (packing.Length m) ≡ packing.Length n → Fine S tables samples scratch × (n ≡ length (file S tables samples)) × (n ≤ room)
+        fits : (n : ℕ) (b : Bool) → ltb room m ≡ b → cond b (Err (NoRoom m)) (Ok m) ≡ Ok n → Fine S tables samples scratch × (n ≡ length (file S tables samples)) × (n ≤ room)
         fits n true q e = let z : ◌≡◌ {A = ℕ} 0 1 = cc in absurd (omega arith)
         fits n false q e = let f = length_only m p in let c : m ≡ n = cc in (f.0, sym c ∙ f.1, let l = ltb-false room m q in omega arith)
 
-        over : (n : ℕ) (b : Bool) → ltb room m ≡ b → cond b (packing.Refused (NoRoom m)) (packing.Length m) ≡ packing.Refused (NoRoom n) → Fine S tables samples scratch × (n ≡ length (file S tables samples)) × (room < n)
+        over : (n : ℕ) (b : Bool) → ltb room m ≡ b → cond b (Err (NoRoom m)) (Ok m) ≡ Err (NoRoom n) → Fine S tables samples scratch × (n ≡ length (file S tables samples)) × (room < n)
         over n true q e = let f = length_only m p in let c : m ≡ n = cc in (f.0, sym c ∙ f.1, let l = ltb-true room m q in omega arith)
         over n false q e = let z : ◌≡◌ {A = ℕ} 0 1 = cc in absurd (omega arith)
 
     -- a length is answered for what is fine and fits
-    pub packed_only : (n : ℕ) → packed S tables samples scratch room ≡ packing.Length n → Fine S tables samples scratch × (n ≡ length (file S tables samples)) × (n ≤ room)
+    pub packed_only : (n : ℕ) → packed S tables samples scratch room ≡ Ok n → Fine S tables samples scratch × (n ≡ length (file S tables samples)) × (n ≤ room)
     packed_only = (by_length (length_answer S tables samples scratch) refl).0
 
     -- 6 is answered for what is fine and does not fit
-    pub no_room_only : (n : ℕ) → packed S tables samples scratch room ≡ packing.Refused (NoRoom n) → Fine S tables samples scratch × (n ≡ length (file S tables samples)) × (room < n)
+    pub no_room_only : (n : ℕ) → packed S tables samples scratch room ≡ Err (NoRoom n) → Fine S tables samples scratch × (n ≡ length (file S tables samples)) × (room < n)
     no_room_only = (by_length (length_answer S tables samples scratch) refl).1

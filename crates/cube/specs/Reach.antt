@@ -1,5 +1,5 @@
 -- What a published file can tell of a part of the image that was blanked before it was packed, said of the calls.
-use Rattle.std.specs.Prelude.{◌≡◌, refl, true, false, cond, ℕ, suc, ◌+◌, ◌*◌, ◌<◌, ◌≤◌, nat_abs, length, take}
+use Rattle.std.specs.Prelude.{◌≡◌, refl, true, false, cond, ℕ, suc, ◌+◌, ◌*◌, ◌<◌, ◌≤◌, nat_abs, length, take, Ok}
 use Rattle.std.proofs.Common.{sym, ◌∙◌, arith, take_at}
 use Rattle.std.proofs.Math.Path.{ap}
 use Rattle.std.proofs.Math.Bool.{Bool}
@@ -22,7 +22,6 @@ use Rattle.body.specs.Order.{Place, band_sequential, band_interleaved, order}
 use Rattle.body.specs.Body.{codes, body}
 use Rattle.body.specs.Reach.{SameBands, SameRows, Begin}
 use Rattle.body.proofs.Reach.{mapped_of_bands, mapped_of_rows, bodies_of_bands, bodies_of_rows}
-use Rattle.cube.specs.declared.Packed.TheVariants as packing
 use Rattle.cube.specs.File.{file}
 use Rattle.cube.specs.Areas.{Packs}
 use Rattle.cube.specs.Terms.{Allowed}
@@ -41,7 +40,7 @@ legal_begins S tables z l b = record { rescaled = l.coder.rescaling_above; param
 
 -- ---- what was packed
 
-module _ {S : Settings} {tables samples scratch : List ℤ} {out o : List ℕ} {n : ℕ} (p : Packs S tables samples scratch out (packing.Length n) o) where
+module _ {S : Settings} {tables samples scratch : List ℤ} {out o : List ℕ} {n : ℕ} (p : Packs S tables samples scratch out (Ok n) o) where
   packed_allowed : Allowed S tables samples
   packed_allowed = fine_allowed S tables samples (length scratch) ((packs_exactly p).1 n refl).0
 
@@ -86,7 +85,7 @@ alike a b c c' d d' e e' = cut c d e ∙ sym (cut c' d' e')
         ∙ take_at (a ++ b) (c ++ d) (length (a ++ b)) refl
 
 module _ {S : Settings} {tables x x' scratch scratch' : List ℤ} {out out' o o' : List ℕ} {n n' : ℕ}
-    (p : Packs S tables x scratch out (packing.Length n) o) (p' : Packs S tables x' scratch' out' (packing.Length n') o') where
+    (p : Packs S tables x scratch out (Ok n) o) (p' : Packs S tables x' scratch' out' (Ok n') o') where
   abbrev X : Image
   X = image_of S.image x
 

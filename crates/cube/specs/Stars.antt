@@ -1,5 +1,5 @@
 -- Document 01's starred numbers, one table, checked together against the definitions by one computed test.
-use Rattle.std.specs.Prelude.{◌≡◌, refl, Bool, true, false, List, [], ◌∷◌, ◌++◌, map, ℕ, ◌-◌, ◌^◌, ℤ, pos, negsuc, neg_ℤ, ◌-ℤ◌, replicate}
+use Rattle.std.specs.Prelude.{◌≡◌, refl, Bool, true, false, List, [], ◌∷◌, ◌++◌, map, ℕ, ◌-◌, ◌^◌, ℤ, pos, negsuc, neg_ℤ, ◌-ℤ◌, replicate, Result, Ok, Err}
 use Rattle.integers.specs.Integer.{floor_mod, clip, wrap, is_even}
 use Rattle.bitstream.specs.Stream.{odd, bits, number, unpack, first_bytes, pack, zeros, filled, field, bad}
 use Rattle.settings.specs.declared.Settings.{Settings}
@@ -32,8 +32,6 @@ use Rattle.header.specs.Read.{read_image, read_predictor, read_coder, read_table
 use Rattle.header.specs.Write.{weight_part, accumulator_part, header}
 use Rattle.body.specs.Order.{column_of, row_of, band_sequential, sub_frames, frame_of, band_interleaved, order}
 use Rattle.body.specs.Body.{code, codes, body, mapped_off, restored, read_body}
-use Rattle.cube.specs.declared.Packed.{Packed}
-use Rattle.cube.specs.declared.Packed.TheVariants as packing
 use Rattle.cube.specs.File.{file_bits, file, length_answer, packed}
 use Rattle.cube.specs.Open.{Cube, at_end, behind_header, opened_bits, opened}
 
@@ -60,7 +58,7 @@ abbrev no_tables : List ℤ
 no_tables = replicate 19 (pos 0)
 
 -- packing that sample into so many bytes, with 32 slots of scratch
-abbrev packed_into : ℕ → Packed
+abbrev packed_into : ℕ → Result ℕ Refusal
 packed_into room = packed (worked 1 8 1) no_tables (pos 130 ∷ []) 32 room
 
 -- opening with memory for n samples of one band
@@ -68,7 +66,7 @@ abbrev opened_with : ℕ → List ℕ → Read Cube
 opened_with n = opened (record { scratch = 32; tables = 19; image = n })
 
 -- the length asked for without a sample: 3 where the settings are legal and within the limits
-abbrev asked : Settings → Packed
+abbrev asked : Settings → Result ℕ Refusal
 asked S = length_answer S [] [] 0
 
 -- a weight of 0 after the error e beside the component 5, for ρ = vmin + 4
@@ -104,8 +102,8 @@ pub record Stars : Type 0 where
       ≡ 0x00 ∷ 0x00 ∷ 0x02 ∷ 0x00 ∷ 0x01 ∷ 0x00 ∷ 0x01 ∷ 0x11 ∷ 0x00 ∷ 0x00 ∷ 0x10 ∷ 0x00 ∷ 0x02 ∷ 0xA0 ∷ 0x00 ∷ 0x59
       ∷ 0x00 ∷ 0x40 ∷ 0x20 ∷ 0x04 ∷ 0x40 ∷ 0x00 ∷ []
   -- whole answers: the first file fits 20 bytes and not 19, and opens again
-  packed_fits : packed_into 20 ≡ packing.Length 20
-  packed_short : packed_into 19 ≡ packing.Refused (NoRoom 20)
+  packed_fits : packed_into 20 ≡ Ok 20
+  packed_short : packed_into 19 ≡ Err (NoRoom 20)
   opened_whole : opened_with 1 one_sample ≡ got (record { settings = worked 1 8 1; tables = no_tables; samples = pos 130 ∷ [] }) []
   scaled_second : scaled_at (worked 2 8 1) [] (image_of (worked 2 8 1).image (pos 130 ∷ pos 131 ∷ [])) 0 1 ≡ pos 261
   mapped_second : mapped_at (worked 2 8 1) [] (image_of (worked 2 8 1).image (pos 130 ∷ pos 131 ∷ [])) 0 1 ≡ 1
@@ -151,13 +149,13 @@ pub record Stars : Type 0 where
   codeword_value : refusals.value (BadCodeword 1) ≡ 1
   numbers : map refusals.number table ≡ 1 ∷ 2 ∷ 3 ∷ 4 ∷ 5 ∷ 6 ∷ 7 ∷ 8 ∷ 9 ∷ 10 ∷ 11 ∷ 12 ∷ 13 ∷ 14 ∷ 15 ∷ 16 ∷ 17 ∷ 18 ∷ []
   -- γ* = 9 and 10, Nz = 4,096 and 4,097, M = Nz and Nz + 1, and M = 0, which is not Nz
-  rescaling_nine : asked (row_of_bands 1 1 8 1 true 0 (negsuc 0) 9 0) ≡ packing.Refused WrongCount
-  rescaling_ten : asked (row_of_bands 1 1 8 1 true 0 (negsuc 0) 10 0) ≡ packing.Refused IllegalSetting
-  bands_most : asked (row_of_bands 1 4096 8 1 true 0 (negsuc 0) 4 0) ≡ packing.Refused WrongCount
-  bands_more : asked (row_of_bands 1 4097 8 1 true 0 (negsuc 0) 4 0) ≡ packing.Refused HouseLimit
-  depth_most : asked (row_of_bands 1 3 8 1 false 3 (negsuc 0) 4 0) ≡ packing.Refused WrongCount
-  depth_more : asked (row_of_bands 1 3 8 1 false 4 (negsuc 0) 4 0) ≡ packing.Refused IllegalSetting
-  depth_none : asked (row_of_bands 1 3 8 1 false 0 (negsuc 0) 4 0) ≡ packing.Refused IllegalSetting
+  rescaling_nine : asked (row_of_bands 1 1 8 1 true 0 (negsuc 0) 9 0) ≡ Err WrongCount
+  rescaling_ten : asked (row_of_bands 1 1 8 1 true 0 (negsuc 0) 10 0) ≡ Err IllegalSetting
+  bands_most : asked (row_of_bands 1 4096 8 1 true 0 (negsuc 0) 4 0) ≡ Err WrongCount
+  bands_more : asked (row_of_bands 1 4097 8 1 true 0 (negsuc 0) 4 0) ≡ Err HouseLimit
+  depth_most : asked (row_of_bands 1 3 8 1 false 3 (negsuc 0) 4 0) ≡ Err WrongCount
+  depth_more : asked (row_of_bands 1 3 8 1 false 4 (negsuc 0) 4 0) ≡ Err IllegalSetting
+  depth_none : asked (row_of_bands 1 3 8 1 false 0 (negsuc 0) 4 0) ≡ Err IllegalSetting
 
 pub stars : Stars
 unfolding floor_mod clip wrap is_even bits odd number first_bytes pack filled field codeword run parse join sum_below entry backward component_count lowest highest middle sample_count neighbours_at position_at local_sum sum_at directional central_at centrals_at directional_at components_at eighths default_weights custom_weight initial_weights inner scaled_by scaled_prediction first_prediction exponent_by exponent gain weight_step stepped_weights next_weights theta map_residual mapped_by mapped scaled_with weights_behind weights_at scaled_at mapped_at initial_parameter initial_accumulator initial_statistics next_statistics largest parameter statistics_behind statistics_at encode encode_at fields image_fields exponent_of predictor_fields coder_fields twos weight_table accumulator_table weight_part accumulator_part header column_of row_of band_sequential sub_frames frame_of band_interleaved order image_of code codes body file_bits file unpack settings_legal image_legal interval_legal predictor_legal coder_legal limited first_hit areas_short check_pack in_range first_out every weight_legal accumulator_legal band_legal tables_legal unmap_residual unmapped_by unmapped decode split same parts.image_of predictor_of coder_of signed_of components_before number_at used slots tables_of read_image read_predictor read_coder read_table read_weights read_accumulators read_header mapped_off restored read_body length_answer packed at_end behind_header opened_bits opened refusals.number refusals.value

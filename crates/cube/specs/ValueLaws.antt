@@ -1,12 +1,11 @@
 -- Which refusals the reader's parts give: those of the header touch nothing, and every value is at most the house limit on samples.
-use Rattle.std.specs.Prelude.{◌≡◌, refl, Bool, cond, ℕ, suc, ◌+◌, ◌*◌, ◌≤◌, ℤ, length}
+use Rattle.std.specs.Prelude.{◌≡◌, refl, Bool, cond, ℕ, suc, ◌+◌, ◌*◌, ◌≤◌, ℤ, length, Err}
 use Rattle.std.proofs.Common.{subst, arith}
 use Rattle.std.proofs.Math.Bool.{true, false}
 use mathlib.Core.List.{List, [], ◌∷◌}
 use Rattle.bitstream.specs.Stream.{Parsed, ok, short, bad, unpack}
 use Rattle.refusals.specs.declared.Refusal.{Refusal}
 use Rattle.refusals.specs.declared.Refusal.TheVariants.{EndsInHeader, IllegalField, HouseLimit, BlockCoder, BodyEnds, BadCodeword}
-use Rattle.refusals.specs.declared.Checked.TheVariants.{Refused}
 use Rattle.refusals.specs.Refusals.{value, clears}
 use Rattle.refusals.specs.Tests.{Test, first_hit}
 use Rattle.refusals.specs.Reading.{Read, got, refused, and_then, unless}
@@ -46,7 +45,7 @@ module _ (Q : Refusal → Type 0) where
   tested [] h k = k
   tested {A} (t ∷ ts) {x} h k = go t.fails (tested ts h.1 k)
     where
-      go : (b : Bool) → Refuses Q (unless (first_hit ts) x) → Refuses Q (unless (cond b (Refused t.refusal) (first_hit ts)) x)
+      go : (b : Bool) → Refuses Q (unless (first_hit ts) x) → Refuses Q (unless (cond b (Err t.refusal) (first_hit ts)) x)
       go true m = refused_refuses t.refusal h.0
       go false m = m
 

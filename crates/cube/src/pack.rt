@@ -4,14 +4,13 @@ ghost use Rattle.settings.specs.Fine.{Fine};
 ghost use Rattle.cube.specs.Areas.{Packs, Lengths};
 ghost use Rattle.cube.specs.Writing.{Written};
 
-use super::Packed;
-use bitstream::write::{fill, finish, start};
+use bitstream::write::Tail;
 use body_value::plan::plan_of;
 use body_walk::whole::write_body;
 use checks::check::check_pack;
-use closing::clear::clear_bytes;
+use closing::clear::clear;
 use header::write::write_header;
-use refusals::{Checked, Refusal};
+use refusals::Refusal;
 use settings::Settings;
 
 // The file of what passed the tests, as far as the output holds it, and its length in bytes.
@@ -26,11 +25,11 @@ fn write_file(
     ensures { Written s tables.now samples.now out.old result out.new }
 {
     let p = plan_of(s);
-    let begun = start();
+    let begun = Tail::start();
     let headed = write_header(s, tables, begun, &mut *out);
     let bodied = write_body(p, tables, samples, scratch, headed, &mut *out);
-    let filled = fill(bodied, &mut *out, s.image.word);
-    finish(filled, out)
+    let filled = bodied.fill(&mut *out, s.image.word);
+    filled.finish(out)
 }
 
 // What passed the tests is stored whole, or the output is cleared whole.
@@ -40,16 +39,16 @@ fn pack_fine(
     samples: &[i32],
     scratch: &mut [i32],
     out: &mut [u8],
-) -> Packed
+) -> Result<u64, Refusal>
     requires { Fine s tables.now samples.now (length scratch.old) }
     ensures { Packs s tables.now samples.now scratch.old out.old result out.new }
 {
     let size = write_file(s, tables, samples, scratch, &mut *out);
     if out.len() < size {
-        clear_bytes(out);
-        return Packed::Refused(Refusal::NoRoom(size as u64));
+        clear(out, 0);
+        return Err(Refusal::NoRoom(size as u64));
     }
-    Packed::Length(size as u64)
+    Ok(size as u64)
 }
 
 // The public call: any settings, any areas get an answer.
@@ -59,27 +58,23 @@ pub fn pack(
     samples: &[i32],
     scratch: &mut [i32],
     out: &mut [u8],
-) -> Packed
+) -> Result<u64, Refusal>
     ensures { Packs s tables.now samples.now scratch.old out.old result out.new }
 {
-    let checked = check_pack(s, tables, samples, scratch.len());
-    match checked {
-        Checked::Passed => pack_fine(s, tables, samples, scratch, out),
-        Checked::Refused(why) => Packed::Refused(why),
-    }
+    check_pack(s, tables, samples, scratch.len())?;
+    pack_fine(s, tables, samples, scratch, out)
 }
 
 // The length of the file that packing would make, written nowhere.
-pub fn length(s: Settings, tables: &[i32], samples: &[i32], scratch: &mut [i32]) -> Packed
+pub fn length(
+    s: Settings,
+    tables: &[i32],
+    samples: &[i32],
+    scratch: &mut [i32],
+) -> Result<u64, Refusal>
     ensures { Lengths s tables.now samples.now scratch.old result }
 {
-    let checked = check_pack(s, tables, samples, scratch.len());
-    match checked {
-        Checked::Passed => {
-            let mut nothing = [0u8; 1];
-            let n = write_file(s, tables, samples, scratch, &mut nothing[..0]);
-            Packed::Length(n as u64)
-        }
-        Checked::Refused(why) => Packed::Refused(why),
-    }
+    check_pack(s, tables, samples, scratch.len())?;
+    let n = write_file(s, tables, samples, scratch, &mut []);
+    Ok(n as u64)
 }

@@ -1,37 +1,33 @@
 -- What the four calls of the boundary answer, and what each lent area holds afterwards.
-use Rattle.std.specs.Prelude.{◌≡◌, List, [], ◌∷◌, ◌++◌, ℕ, ℤ, length, drop}
+use Rattle.std.specs.Prelude.{◌≡◌, List, [], ◌∷◌, ◌++◌, ℕ, ℤ, length, drop, Result, Ok, Err, ⊤}
 use Rattle.bitstream.specs.Stream.{unpack}
-use Rattle.refusals.specs.declared.Checked.{Checked}
-use Rattle.refusals.specs.declared.Checked.TheVariants as checking
 use Rattle.refusals.specs.Tests.{first_hit}
 use Rattle.refusals.specs.Reading.{Read, unless}
 use Rattle.header.specs.Read.{read_header}
-use Rattle.cube.specs.declared.Packed.{Packed}
-use Rattle.cube.specs.declared.Packed.TheVariants as packing
-use Rattle.cube.specs.declared.Opened.{Opened}
-use Rattle.cube.specs.declared.Opened.TheVariants as opening
+use Rattle.settings.specs.declared.Settings.{Settings}
 use Rattle.cube.specs.File.{length_answer, packed}
 use Rattle.cube.specs.Open.{Cube, Lent, opened}
 use Rattle.cube.specs.Look.{look_answer}
 use Rattle.cube.specs.Areas.{out_after, open_answer, image_after, tables_after, lent_of}
 use Rattle.settings_slots.specs.Slots.{slot_count, settings_from, slots_of, too_short, slots_checked}
 use Rattle.settings_slots.specs.Storing.{Small}
+use Rattle.refusals.specs.declared.Refusal.{Refusal}
 use Rattle.cube_c.specs.Answer.{packed_word, opened_word, looked_word}
 
 -- ---- pack and length
 
 -- what is answered, unless a test fails
-abbrev pub answered_unless : Checked → Packed → Packed
-answered_unless checking.Passed r = r
-answered_unless (checking.Refused w) r = packing.Refused w
+abbrev pub answered_unless : Result ⊤ Refusal → Result ℕ Refusal → Result ℕ Refusal
+answered_unless (Ok tt) r = r
+answered_unless (Err w) r = Err w
 
 -- what the length count answers
-unfoldable pub boundary_length : List ℤ → List ℤ → List ℤ → ℕ → Packed
+unfoldable pub boundary_length : List ℤ → List ℤ → List ℤ → ℕ → Result ℕ Refusal
 boundary_length slots tables samples scratch =
     answered_unless (slots_checked slots) (length_answer (settings_from slots) tables samples scratch)
 
 -- what packing answers, into so many bytes
-unfoldable pub boundary_packed : List ℤ → List ℤ → List ℤ → ℕ → ℕ → Packed
+unfoldable pub boundary_packed : List ℤ → List ℤ → List ℤ → ℕ → ℕ → Result ℕ Refusal
 boundary_packed slots tables samples scratch room =
     answered_unless (slots_checked slots) (packed (settings_from slots) tables samples scratch room)
 
@@ -42,18 +38,18 @@ unfoldable pub boundary_opened : List ℤ → Lent → List ℕ → Read Cube
 boundary_opened slots lent bytes = unless (first_hit (too_short slots ∷ [])) (opened lent bytes)
 
 -- what the look answers
-unfoldable pub boundary_looked : List ℤ → List ℕ → Opened
+unfoldable pub boundary_looked : List ℤ → List ℕ → Result Settings Refusal
 boundary_looked slots bytes = look_answer (unless (first_hit (too_short slots ∷ [])) (read_header (unpack bytes)))
 
 -- an answer whose settings, where there are any, slots can hold
-unfoldable pub Storable : Opened → Type 0
-Storable (opening.Settings S) = Small S
-Storable (opening.Refused w) = Unit {0}
+unfoldable pub Storable : Result Settings Refusal → Type 0
+Storable (Ok S) = Small S
+Storable (Err w) = Unit {0}
 
 -- the settings area that held l: 24 slots written, or untouched
-unfoldable pub slots_after : Opened → List ℤ → List ℤ
-slots_after (opening.Settings S) l = slots_of S ++ drop slot_count l
-slots_after (opening.Refused w) l = l
+unfoldable pub slots_after : Result Settings Refusal → List ℤ → List ℤ
+slots_after (Ok S) l = slots_of S ++ drop slot_count l
+slots_after (Err w) l = l
 
 -- ---- the calls' statements
 

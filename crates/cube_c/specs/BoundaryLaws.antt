@@ -1,5 +1,5 @@
 -- The boundary's calls have one answer each, and every value in an answer is below 2^56.
-use Rattle.std.specs.Prelude.{◌≡◌, refl, Bool, cond, List, [], ◌∷◌, ℕ, ◌+◌, ◌≤◌, ◌<◌, ℤ, length, ltb, eqb}
+use Rattle.std.specs.Prelude.{◌≡◌, refl, Bool, cond, List, [], ◌∷◌, ℕ, ◌+◌, ◌≤◌, ◌<◌, ℤ, length, ltb, eqb, Result, Ok, Err, ⊤}
 use Rattle.std.proofs.Common.{sym, ◌∙◌, subst}
 use Rattle.std.proofs.Math.Bool.{true, false}
 use Rattle.std.proofs.Math.Decide.{dec_le}
@@ -8,8 +8,6 @@ use borrow.Author.Tests.{not-false, ltb-true, ltb-false, lt-ltb, le-ltb, eqb-tru
 use Rattle.bitstream.specs.Stream.{unpack}
 use Rattle.refusals.specs.declared.Refusal.{Refusal}
 use Rattle.refusals.specs.declared.Refusal.TheVariants.{WrongCount, NoRoom}
-use Rattle.refusals.specs.declared.Checked.{Checked}
-use Rattle.refusals.specs.declared.Checked.TheVariants as checking
 use Rattle.refusals.specs.Refusals.{value}
 use Rattle.refusals.specs.Tests.{Test, first_hit}
 use Rattle.refusals.specs.TestLaws.{passes_all}
@@ -23,10 +21,6 @@ use Rattle.settings.specs.CheckLaws.{fine}
 use Rattle.header.specs.Read.{Header, read_header}
 use Rattle.header.specs.Write.{used_settings}
 use Rattle.header.specs.HeaderLaws.{read_header_lem}
-use Rattle.cube.specs.declared.Packed.{Packed}
-use Rattle.cube.specs.declared.Packed.TheVariants as packing
-use Rattle.cube.specs.declared.Opened.{Opened}
-use Rattle.cube.specs.declared.Opened.TheVariants as opening
 use Rattle.cube.specs.File.{length_answer, packed}
 use Rattle.cube.specs.Open.{Cube, Lent, opened}
 use Rattle.cube.specs.Answers.{packed_value, opened_value, looked_value}
@@ -70,22 +64,22 @@ abbrev Tests : ℕ → List Test → Type 0
 Tests n [] = Unit {0}
 Tests n (t ∷ ts) = (t.fails ≡ true → value t.refusal < n) × (t.fails ≡ false → Tests n ts)
 
-hit_small : (n : ℕ) (ts : List Test) (w : Refusal) → Tests n ts → first_hit ts ≡ checking.Refused w → value w < n
+hit_small : (n : ℕ) (ts : List Test) (w : Refusal) → Tests n ts → first_hit ts ≡ Err w → value w < n
 unfolding first_hit
 hit_small n [] w s e = let z : ◌≡◌ {A = ℕ} 0 1 = cc in absurd (omega arith)
 hit_small n (t ∷ ts) w s e = go t.fails refl (hit_small n ts w) e
   where
-    go : (b : Bool) → t.fails ≡ b → (Tests n ts → first_hit ts ≡ checking.Refused w → value w < n)
-        → cond b (checking.Refused t.refusal) (first_hit ts) ≡ checking.Refused w → value w < n
+    go : (b : Bool) → t.fails ≡ b → (Tests n ts → first_hit ts ≡ Err w → value w < n)
+        → cond b (Err t.refusal) (first_hit ts) ≡ Err w → value w < n
     go true p f q = let k : t.refusal ≡ w = cc in rw k at (s.0 p)
     go false p f q = f (s.1 p) q
 
-pub slots_small : (slots : List ℤ) (w : Refusal) → slots_checked slots ≡ checking.Refused w → value w < 1
+pub slots_small : (slots : List ℤ) (w : Refusal) → slots_checked slots ≡ Err w → value w < 1
 unfolding slots_checked value
 slots_small slots w e = hit_small 1 _ w (λ _. omega arith, λ _. (λ _. omega arith, λ _. tt)) e
 
 -- slots that pass are enough, and the record can hold them
-pub slots_pass : (slots : List ℤ) → slots_checked slots ≡ checking.Passed → (slot_count ≤ length slots) × (holds slots ≡ true)
+pub slots_pass : (slots : List ℤ) → slots_checked slots ≡ (Ok tt) → (slot_count ≤ length slots) × (holds slots ≡ true)
 unfolding slots_checked
 slots_pass slots e =
     let h = passes_all _ e in
@@ -95,7 +89,7 @@ slots_pass slots e =
 
 module _ (S : Settings) (tables samples : List ℤ) (scratch : ℕ) where
   -- an index comes only after the house limit and the count have passed
-  check_small : (w : Refusal) → check_pack S tables samples scratch ≡ checking.Refused w → value w ≤ most_file_bytes
+  check_small : (w : Refusal) → check_pack S tables samples scratch ≡ Err w → value w ≤ most_file_bytes
   unfolding check_pack value
   check_small w e =
       let h : value w < most_file_bytes + 1 =
@@ -124,31 +118,31 @@ module _ (S : Settings) (tables samples : List ℤ) (scratch : ℕ) where
       ) e in
       omega arith
 
-  length_by : (x : Checked) → check_pack S tables samples scratch ≡ x → packed_value (length_answer S tables samples scratch) ≤ most_file_bytes
+  length_by : (x : Result ⊤ Refusal) → check_pack S tables samples scratch ≡ x → packed_value (length_answer S tables samples scratch) ≤ most_file_bytes
   unfolding length_answer packed_value
-  length_by checking.Passed e = let f = fine S tables samples scratch e in rw e (file_most S tables samples f.legal f.small)
-  length_by (checking.Refused w) e = rw e (check_small w e)
+  length_by (Ok tt) e = let f = fine S tables samples scratch e in rw e (file_most S tables samples f.legal f.small)
+  length_by (Err w) e = rw e (check_small w e)
 
   pub length_small : packed_value (length_answer S tables samples scratch) ≤ most_file_bytes
   length_small = length_by (check_pack S tables samples scratch) refl
 
-  packed_by : (room : ℕ) (x : Packed) → length_answer S tables samples scratch ≡ x → packed_value x ≤ most_file_bytes → packed_value (packed S tables samples scratch room) ≤ most_file_bytes
+  packed_by : (room : ℕ) (x : Result ℕ Refusal) → length_answer S tables samples scratch ≡ x → packed_value x ≤ most_file_bytes → packed_value (packed S tables samples scratch room) ≤ most_file_bytes
   unfolding packed packed_value value
-  packed_by room (packing.Length n) e h = rw e (go (ltb room n))
+  packed_by room (Ok n) e h = rw e (go (ltb room n))
     where
-      go : (b : Bool) → packed_value (cond b (packing.Refused (NoRoom n)) (packing.Length n)) ≤ most_file_bytes
+      go : (b : Bool) → packed_value (cond b (Err (NoRoom n)) (Ok n)) ≤ most_file_bytes
       go true = h
       go false = h
-  packed_by room (packing.Refused w) e h = rw e h
+  packed_by room (Err w) e h = rw e h
 
   pub packed_small : (room : ℕ) → packed_value (packed S tables samples scratch room) ≤ most_file_bytes
   packed_small room = packed_by room (length_answer S tables samples scratch) refl length_small
 
 -- an answer behind the boundary's own tests
-unless_small : (x : Checked) (r : Packed) → ((w : Refusal) → x ≡ checking.Refused w → value w < 1) → packed_value r ≤ most_file_bytes → packed_value (answered_unless x r) < value_limit
+unless_small : (x : Result ⊤ Refusal) (r : Result ℕ Refusal) → ((w : Refusal) → x ≡ Err w → value w < 1) → packed_value r ≤ most_file_bytes → packed_value (answered_unless x r) < value_limit
 unfolding packed_value
-unless_small checking.Passed r f h = omega arith
-unless_small (checking.Refused w) r f h = let k = f w refl in omega arith
+unless_small (Ok tt) r f h = omega arith
+unless_small (Err w) r f h = let k = f w refl in omega arith
 
 pub c_packed_small : (slots tables samples : List ℤ) (scratch room : ℕ) → packed_value (boundary_packed slots tables samples scratch room) < value_limit
 unfolding boundary_packed
@@ -183,7 +177,7 @@ pub opened_long : (slots : List ℤ) (lent : Lent) (bytes : List ℕ) → slot_c
 unfolding boundary_opened first_hit
 opened_long slots lent bytes h = rw (le-ltb (length slots) slot_count h)
 
-pub looked_short : (slots : List ℤ) (bytes : List ℕ) → length slots < slot_count → boundary_looked slots bytes ≡ opening.Refused WrongCount
+pub looked_short : (slots : List ℤ) (bytes : List ℕ) → length slots < slot_count → boundary_looked slots bytes ≡ Err WrongCount
 unfolding boundary_looked first_hit look_answer
 looked_short slots bytes h = rw (lt-ltb (length slots) slot_count h)
 
@@ -192,7 +186,7 @@ unfolding boundary_looked first_hit looked
 looked_long slots bytes h = rw (le-ltb (length slots) slot_count h)
 
 -- what a reader answers is small, and its settings fit the slots
-pub record Fit (value : Opened → ℕ) (r : Opened) : Type 0 where
+pub record Fit (value : Result Settings Refusal → ℕ) (r : Result Settings Refusal) : Type 0 where
   pub value_small : value r < value_limit
   pub storable : Storable r
 

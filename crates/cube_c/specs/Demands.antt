@@ -1,13 +1,11 @@
 -- Demands 1 to 3 at the boundary, as far as they say more than the cube's own: words, the tests of the slots, and the settings area.
-use Rattle.std.specs.Prelude.{◌≡◌, Bool, true, false, ◌||◌, List, ◌∷◌, ◌++◌, ℕ, ◌*◌, ◌<◌, ◌≤◌, ℤ, pos, length, take, drop, replicate, eqb}
+use Rattle.std.specs.Prelude.{◌≡◌, Bool, true, false, ◌||◌, List, ◌∷◌, ◌++◌, ℕ, ◌*◌, ◌<◌, ◌≤◌, ℤ, pos, length, take, drop, replicate, eqb, Result, Ok, Err, ⊤}
 use Rattle.std.proofs.Math.Path.{refl, ap, subst}
 use Rattle.std.proofs.Common.{sym, ◌∙◌, arith, length-append}
 use Rattle.std.proofs.Math.Decide.{dec_le}
 use Rattle.bitstream.specs.Stream.{Bytes, unpack}
 use Rattle.refusals.specs.declared.Refusal.{Refusal}
 use Rattle.refusals.specs.declared.Refusal.TheVariants.{IllegalSetting, WrongCount}
-use Rattle.refusals.specs.declared.Checked.{Checked}
-use Rattle.refusals.specs.declared.Checked.TheVariants as checking
 use Rattle.refusals.specs.Refusals.{number, value, clears}
 use Rattle.refusals.specs.Reading.{Read, got, refused}
 use Rattle.refusals.specs.RefusalLaws.{refusals_closed}
@@ -18,10 +16,6 @@ use Rattle.settings.specs.Tables.{table_stride, scratch_stride}
 use Rattle.settings.specs.Fine.{Fine}
 use Rattle.header.specs.Tables.{used_tables}
 use Rattle.header.specs.Write.{used_settings}
-use Rattle.cube.specs.declared.Packed.{Packed}
-use Rattle.cube.specs.declared.Packed.TheVariants as packing
-use Rattle.cube.specs.declared.Opened.{Opened}
-use Rattle.cube.specs.declared.Opened.TheVariants as opening
 use Rattle.cube.specs.File.{file, packed}
 use Rattle.cube.specs.Open.{Cube, opened}
 use Rattle.cube.specs.Answers.{packed_number, packed_value, opened_number, opened_value, looked_value}
@@ -47,7 +41,7 @@ word_tells n v n' v' h h' e = (sym (number_in_lem n v h) ∙ ap number_in e ∙ 
 
 -- the numbers and values that the calls' words say
 module _ {slots tables samples scratch : List ℤ} {out : List ℕ} {r : ℕ} {o : List ℕ} (p : CPacks slots tables samples scratch out r o) where
-  abbrev answered : Packed
+  abbrev answered : Result ℕ Refusal
   answered = boundary_packed slots tables samples (length scratch) (length out)
 
   pub pack_number : number_in r ≡ packed_number answered
@@ -68,40 +62,40 @@ or_more : (a b : Bool) → b ≡ true → (a || b) ≡ true
 or_more true b e = refl
 or_more false b e = e
 
-packed_among : (l : List ℕ) (x : Packed) → ((w : Refusal) → x ≡ packing.Refused w → Listed l w) → among (0 ∷ l) (packed_number x) ≡ true
+packed_among : (l : List ℕ) (x : Result ℕ Refusal) → ((w : Refusal) → x ≡ Err w → Listed l w) → among (0 ∷ l) (packed_number x) ≡ true
 unfolding among packed_number
-packed_among l (packing.Length n) h = refl
-packed_among l (packing.Refused w) h = or_more (eqb (number w) 0) (among l (number w)) (h w refl)
+packed_among l (Ok n) h = refl
+packed_among l (Err w) h = or_more (eqb (number w) 0) (among l (number w)) (h w refl)
 
-opened_among : (l : List ℕ) (x : Opened) → ((w : Refusal) → x ≡ opening.Refused w → Listed l w) → among (0 ∷ l) (opened_number x) ≡ true
+opened_among : (l : List ℕ) (x : Result Settings Refusal) → ((w : Refusal) → x ≡ Err w → Listed l w) → among (0 ∷ l) (opened_number x) ≡ true
 unfolding among opened_number
-opened_among l (opening.Settings S) h = refl
-opened_among l (opening.Refused w) h = or_more (eqb (number w) 0) (among l (number w)) (h w refl)
+opened_among l (Ok S) h = refl
+opened_among l (Err w) h = or_more (eqb (number w) 0) (among l (number w)) (h w refl)
 
 module _ (slots tables samples : List ℤ) (scratch : ℕ) where
-  slots_listed : (l : List ℕ) → Listed l WrongCount → Listed l IllegalSetting → (w : Refusal) → slots_checked slots ≡ checking.Refused w → Listed l w
+  slots_listed : (l : List ℕ) → Listed l WrongCount → Listed l IllegalSetting → (w : Refusal) → slots_checked slots ≡ Err w → Listed l w
   unfolding slots_checked
   slots_listed l h3 h1 w e = hit_tests (Listed l) _ w (h3, (h1, tt)) e
 
-  pack_listed : (room : ℕ) (w : Refusal) → boundary_packed slots tables samples scratch room ≡ packing.Refused w → Listed pack_refuses w
+  pack_listed : (room : ℕ) (w : Refusal) → boundary_packed slots tables samples scratch room ≡ Err w → Listed pack_refuses w
   unfolding boundary_packed among number
   pack_listed room w e = go (slots_checked slots) refl
     where
-      go : (x : Checked) → slots_checked slots ≡ x → Listed pack_refuses w
-      go checking.Passed q = packed_listed (settings_from slots) tables samples scratch room w (rw q at e)
-      go (checking.Refused v) q =
-          let k : boundary_packed slots tables samples scratch room ≡ packing.Refused v = rw q in
+      go : (x : Result ⊤ Refusal) → slots_checked slots ≡ x → Listed pack_refuses w
+      go (Ok tt) q = packed_listed (settings_from slots) tables samples scratch room w (rw q at e)
+      go (Err v) q =
+          let k : boundary_packed slots tables samples scratch room ≡ Err v = rw q in
           let m : v ≡ w = cc in
           subst (Listed pack_refuses) m (slots_listed pack_refuses refl refl v q)
 
-  count_listed : (w : Refusal) → boundary_length slots tables samples scratch ≡ packing.Refused w → Listed length_refuses w
+  count_listed : (w : Refusal) → boundary_length slots tables samples scratch ≡ Err w → Listed length_refuses w
   unfolding boundary_length among number
   count_listed w e = go (slots_checked slots) refl
     where
-      go : (x : Checked) → slots_checked slots ≡ x → Listed length_refuses w
-      go checking.Passed q = length_listed (settings_from slots) tables samples scratch w (rw q at e)
-      go (checking.Refused v) q =
-          let k : boundary_length slots tables samples scratch ≡ packing.Refused v = rw q in
+      go : (x : Result ⊤ Refusal) → slots_checked slots ≡ x → Listed length_refuses w
+      go (Ok tt) q = length_listed (settings_from slots) tables samples scratch w (rw q at e)
+      go (Err v) q =
+          let k : boundary_length slots tables samples scratch ≡ Err v = rw q in
           let m : v ≡ w = cc in
           subst (Listed length_refuses) m (slots_listed length_refuses refl refl v q)
 
@@ -121,7 +115,7 @@ unfolding open_answer among number
 c_open_closed {bytes} {scratch} {tables} {image} {slots} p =
     ap (among (0 ∷ open_refuses)) (open_number p) ∙ opened_among open_refuses _ (λ w e. go w e (dec_le slot_count (length slots)))
   where
-    go : (w : Refusal) → open_answer (boundary_opened slots (lent_of scratch tables image) bytes) ≡ opening.Refused w → Dec (slot_count ≤ length slots) → Listed open_refuses w
+    go : (w : Refusal) → open_answer (boundary_opened slots (lent_of scratch tables image) bytes) ≡ Err w → Dec (slot_count ≤ length slots) → Listed open_refuses w
     go w e (yes h) = opened_listed (lent_of scratch tables image) bytes w (answer_refused _ w (rw (opened_long slots (lent_of scratch tables image) bytes h) at e))
     go w e (no h) =
         let k = ap open_answer (opened_short slots (lent_of scratch tables image) bytes (omega arith)) in
@@ -136,7 +130,7 @@ pub c_look_closed : {bytes : List ℕ} {slots : List ℤ} {r : ℕ} {s : List �
 unfolding among number
 c_look_closed {bytes} {slots} p = ap (among (0 ∷ 3 ∷ look_refuses)) (look_number p) ∙ opened_among (3 ∷ look_refuses) _ (λ w e. go w e (dec_le slot_count (length slots)))
   where
-    go : (w : Refusal) → boundary_looked slots bytes ≡ opening.Refused w → Dec (slot_count ≤ length slots) → Listed (3 ∷ look_refuses) w
+    go : (w : Refusal) → boundary_looked slots bytes ≡ Err w → Dec (slot_count ≤ length slots) → Listed (3 ∷ look_refuses) w
     go w e (yes h) = or_more (eqb (number w) 3) (among look_refuses (number w)) (header_listed (unpack bytes) w (looked_refused bytes w (sym (looked_long slots bytes h) ∙ e)))
     go w e (no h) = let k = looked_short slots bytes (omega arith) in let m : WrongCount ≡ w = cc in subst (Listed (3 ∷ look_refuses)) m refl
 
@@ -155,9 +149,9 @@ pub c_pack_refused : {slots tables samples scratch : List ℤ} {out : List ℕ} 
 unfolding packed_number out_after
 c_pack_refused {slots} {tables} {samples} {scratch} {out} {r} {o} p z = go (boundary_packed slots tables samples (length scratch) (length out)) (pack_number p) p.output
   where
-    go : (x : Packed) → number_in r ≡ packed_number x → o ≡ out_after (settings_from slots) tables samples x out → (w : Refusal) × (number_in r ≡ number w) × (o ≡ after_refusal 0 w out)
-    go (packing.Length n) e f = absurd (z e)
-    go (packing.Refused w) e f = (w, e, f)
+    go : (x : Result ℕ Refusal) → number_in r ≡ packed_number x → o ≡ out_after (settings_from slots) tables samples x out → (w : Refusal) × (number_in r ≡ number w) × (o ≡ after_refusal 0 w out)
+    go (Ok n) e f = absurd (z e)
+    go (Err w) e f = (w, e, f)
 
 pub c_open_refused : {bytes : List ℕ} {scratch tables image slots : List ℤ} {r : ℕ} {t i s : List ℤ} → COpens bytes scratch tables image slots r t i s → (number_in r ≡ 0 → ⊥)
     → (w : Refusal) × (number_in r ≡ number w) × (t ≡ after_refusal (pos 0) w tables) × (i ≡ after_refusal (pos 0) w image) × (s ≡ slots)
@@ -173,33 +167,33 @@ c_open_refused {bytes} {scratch} {tables} {image} {slots} {r} {t} {i} {s} p z =
 -- ================ demand 2
 
 -- behind slots that pass, the boundary's packing is the cube's
-pub c_packs_is : {slots tables samples scratch : List ℤ} {out : List ℕ} {r : ℕ} {o : List ℕ} → CPacks slots tables samples scratch out r o → slots_checked slots ≡ checking.Passed
-    → (x : Packed) × Packs (settings_from slots) tables samples scratch out x o × (r ≡ packed_word x)
+pub c_packs_is : {slots tables samples scratch : List ℤ} {out : List ℕ} {r : ℕ} {o : List ℕ} → CPacks slots tables samples scratch out r o → slots_checked slots ≡ (Ok tt)
+    → (x : Result ℕ Refusal) × Packs (settings_from slots) tables samples scratch out x o × (r ≡ packed_word x)
 unfolding boundary_packed
 c_packs_is {slots} {tables} {samples} {scratch} {out} p e =
     (packed (settings_from slots) tables samples (length scratch) (length out), record { answer = refl; number_is = refl; value_is = refl; output = rw e at p.output }, rw e at p.answer)
 
 -- neither success nor 6 comes from the tests of the slots
 slots_passed : {slots tables samples scratch : List ℤ} {out : List ℕ} {r : ℕ} {o : List ℕ} → CPacks slots tables samples scratch out r o
-    → (number_in r ≡ 0 → slots_checked slots ≡ checking.Passed) × (number_in r ≡ 6 → slots_checked slots ≡ checking.Passed)
+    → (number_in r ≡ 0 → slots_checked slots ≡ (Ok tt)) × (number_in r ≡ 6 → slots_checked slots ≡ (Ok tt))
 unfolding boundary_packed packed_number number slots_checked
 slots_passed {slots} {tables} {samples} {scratch} {out} {r} p = go (slots_checked slots) refl
   where
     Other : Refusal → Type 0
     Other w = (number w ≡ 0 → ⊥) × (number w ≡ 6 → ⊥)
 
-    go : (x : Checked) → slots_checked slots ≡ x → (number_in r ≡ 0 → slots_checked slots ≡ checking.Passed) × (number_in r ≡ 6 → slots_checked slots ≡ checking.Passed)
-    go checking.Passed e = (λ _. e, λ _. e)
-    go (checking.Refused w) e =
+    go : (x : Result ⊤ Refusal) → slots_checked slots ≡ x → (number_in r ≡ 0 → slots_checked slots ≡ (Ok tt)) × (number_in r ≡ 6 → slots_checked slots ≡ (Ok tt))
+    go (Ok tt) e = (λ _. e, λ _. e)
+    go (Err w) e =
         let n : number_in r ≡ number w = rw e at (pack_number p) in
         let h = hit_tests Other _ w ((λ q. omega arith, λ q. omega arith), ((λ q. omega arith, λ q. omega arith), tt)) e in
         (λ z. absurd (h.0 (sym n ∙ z)), λ z. absurd (h.1 (sym n ∙ z)))
 
 -- packed exactly when the slots pass, all tests pass and the file fits
 pub c_packs_exactly : {slots tables samples scratch : List ℤ} {out : List ℕ} {r : ℕ} {o : List ℕ} → CPacks slots tables samples scratch out r o
-    → (slots_checked slots ≡ checking.Passed → Fine (settings_from slots) tables samples (length scratch) → length (file (settings_from slots) tables samples) ≤ length out
+    → (slots_checked slots ≡ (Ok tt) → Fine (settings_from slots) tables samples (length scratch) → length (file (settings_from slots) tables samples) ≤ length out
     → (r ≡ word_of 0 (length (file (settings_from slots) tables samples))) × (o ≡ filled_from (file (settings_from slots) tables samples) out))
-    × (number_in r ≡ 0 → (slots_checked slots ≡ checking.Passed) × Fine (settings_from slots) tables samples (length scratch)
+    × (number_in r ≡ 0 → (slots_checked slots ≡ (Ok tt)) × Fine (settings_from slots) tables samples (length scratch)
     × (value_in r ≡ length (file (settings_from slots) tables samples)) × (value_in r ≤ length out))
 unfolding packed_word packed_number packed_value boundary_packed
 c_packs_exactly {slots} {tables} {samples} {scratch} {out} {r} p = (
@@ -207,22 +201,22 @@ c_packs_exactly {slots} {tables} {samples} {scratch} {out} {r} p = (
   λ n. let e = (slots_passed p).0 n in let k = c_packs_is p e in by_answer e k.0 k.1.answer (sym (rw e at (pack_number p)) ∙ n) (rw e at (pack_value p)),
 )
   where
-    answer : Packed
+    answer : Result ℕ Refusal
     answer = packed (settings_from slots) tables samples (length scratch) (length out)
 
-    by_answer : slots_checked slots ≡ checking.Passed → (x : Packed) → x ≡ answer → packed_number answer ≡ 0 → value_in r ≡ packed_value answer
-        → (slots_checked slots ≡ checking.Passed) × Fine (settings_from slots) tables samples (length scratch) × (value_in r ≡ length (file (settings_from slots) tables samples)) × (value_in r ≤ length out)
-    by_answer e (packing.Length k) q n v =
+    by_answer : slots_checked slots ≡ (Ok tt) → (x : Result ℕ Refusal) → x ≡ answer → packed_number answer ≡ 0 → value_in r ≡ packed_value answer
+        → (slots_checked slots ≡ (Ok tt)) × Fine (settings_from slots) tables samples (length scratch) × (value_in r ≡ length (file (settings_from slots) tables samples)) × (value_in r ≤ length out)
+    by_answer e (Ok k) q n v =
         let m = (packs_exactly (c_packs_is p e).1).1 k ((c_packs_is p e).1.answer ∙ sym q) in
         let d : value_in r ≡ k = v ∙ ap packed_value (sym q) in
         (e, m.0, d ∙ m.1, let l = m.2 in omega arith)
-    by_answer e (packing.Refused w) q n v = let c = (refusals_closed w).0 in let z = ap packed_number q ∙ n in absurd (omega arith)
+    by_answer e (Err w) q n v = let c = (refusals_closed w).0 in let z = ap packed_number q ∙ n in absurd (omega arith)
 
 -- refused 6 exactly when the slots pass, all tests pass and the file is longer than the output, which is then all zero
 pub c_no_room_exactly : {slots tables samples scratch : List ℤ} {out : List ℕ} {r : ℕ} {o : List ℕ} → CPacks slots tables samples scratch out r o
-    → (slots_checked slots ≡ checking.Passed → Fine (settings_from slots) tables samples (length scratch) → length out < length (file (settings_from slots) tables samples)
+    → (slots_checked slots ≡ (Ok tt) → Fine (settings_from slots) tables samples (length scratch) → length out < length (file (settings_from slots) tables samples)
     → (r ≡ word_of 6 (length (file (settings_from slots) tables samples))) × (o ≡ replicate (length out) 0))
-    × (number_in r ≡ 6 → (slots_checked slots ≡ checking.Passed) × Fine (settings_from slots) tables samples (length scratch)
+    × (number_in r ≡ 6 → (slots_checked slots ≡ (Ok tt)) × Fine (settings_from slots) tables samples (length scratch)
     × (value_in r ≡ length (file (settings_from slots) tables samples)) × (length out < value_in r))
 unfolding packed_word packed_number packed_value number value boundary_packed
 c_no_room_exactly {slots} {tables} {samples} {scratch} {out} {r} p = (
@@ -230,15 +224,15 @@ c_no_room_exactly {slots} {tables} {samples} {scratch} {out} {r} p = (
   λ n. let e = (slots_passed p).1 n in let k = c_packs_is p e in by_answer e k.0 k.1.answer (sym (rw e at (pack_number p)) ∙ n) (rw e at (pack_value p)),
 )
   where
-    answer : Packed
+    answer : Result ℕ Refusal
     answer = packed (settings_from slots) tables samples (length scratch) (length out)
 
-    by_answer : slots_checked slots ≡ checking.Passed → (x : Packed) → x ≡ answer → packed_number answer ≡ 6 → value_in r ≡ packed_value answer
-        → (slots_checked slots ≡ checking.Passed) × Fine (settings_from slots) tables samples (length scratch) × (value_in r ≡ length (file (settings_from slots) tables samples)) × (length out < value_in r)
-    by_answer e (packing.Length k) q n v = let z = ap packed_number q ∙ n in absurd (omega arith)
-    by_answer e (packing.Refused w) q n v =
+    by_answer : slots_checked slots ≡ (Ok tt) → (x : Result ℕ Refusal) → x ≡ answer → packed_number answer ≡ 6 → value_in r ≡ packed_value answer
+        → (slots_checked slots ≡ (Ok tt)) × Fine (settings_from slots) tables samples (length scratch) × (value_in r ≡ length (file (settings_from slots) tables samples)) × (length out < value_in r)
+    by_answer e (Ok k) q n v = let z = ap packed_number q ∙ n in absurd (omega arith)
+    by_answer e (Err w) q n v =
         let s = six w (ap packed_number q ∙ n) in
-        let m = (no_room_exactly (c_packs_is p e).1).1 (value w) ((c_packs_is p e).1.answer ∙ sym q ∙ ap packing.Refused s) in
+        let m = (no_room_exactly (c_packs_is p e).1).1 (value w) ((c_packs_is p e).1.answer ∙ sym q ∙ ap Err s) in
         let d : value_in r ≡ value w = v ∙ ap packed_value (sym q) in
         (e, m.0, d ∙ m.1, let l = m.2 in omega arith)
 
@@ -246,7 +240,7 @@ c_no_room_exactly {slots} {tables} {samples} {scratch} {out} {r} p = (
 
 -- success is an opening by the cube, with the samples' number in the word and the settings in the 24 slots
 pub c_opens_is : {bytes : List ℕ} {scratch area image slots : List ℤ} {r : ℕ} {t i s : List ℤ} → COpens bytes scratch area image slots r t i s → slot_count ≤ length slots
-    → (x : Opened) × Opens bytes scratch area image x t i × (r ≡ opened_word x) × (s ≡ slots_after x slots)
+    → (x : Result Settings Refusal) × Opens bytes scratch area image x t i × (r ≡ opened_word x) × (s ≡ slots_after x slots)
 c_opens_is {bytes} {scratch} {area} {image} {slots} p h =
     let e = opened_long slots (lent_of scratch area image) bytes h in (
       open_answer (opened (lent_of scratch area image) bytes),
@@ -256,16 +250,16 @@ c_opens_is {bytes} {scratch} {area} {image} {slots} p h =
     )
 
 pub c_opens_success : {bytes : List ℕ} {scratch area image slots : List ℤ} {r : ℕ} {t i s : List ℤ} → COpens bytes scratch area image slots r t i s → number_in r ≡ 0
-    → (S : Settings) × Opens bytes scratch area image (opening.Settings S) t i × (r ≡ word_of 0 (sample_count S.image)) × (s ≡ slots_of S ++ drop slot_count slots)
+    → (S : Settings) × Opens bytes scratch area image (Ok S) t i × (r ≡ word_of 0 (sample_count S.image)) × (s ≡ slots_of S ++ drop slot_count slots)
 unfolding open_answer opened_word opened_number opened_value slots_after number
 c_opens_success {bytes} {scratch} {area} {image} {slots} {r} {t} {i} {s} p z = go (dec_le slot_count (length slots))
   where
-    by_answer : (x : Opened) → Opens bytes scratch area image x t i → r ≡ opened_word x → s ≡ slots_after x slots → opened_number x ≡ 0
-        → (S : Settings) × Opens bytes scratch area image (opening.Settings S) t i × (r ≡ word_of 0 (sample_count S.image)) × (s ≡ slots_of S ++ drop slot_count slots)
-    by_answer (opening.Settings S) o a b n = (S, o, a, b)
-    by_answer (opening.Refused w) o a b n = let c = (refusals_closed w).0 in absurd (omega arith)
+    by_answer : (x : Result Settings Refusal) → Opens bytes scratch area image x t i → r ≡ opened_word x → s ≡ slots_after x slots → opened_number x ≡ 0
+        → (S : Settings) × Opens bytes scratch area image (Ok S) t i × (r ≡ word_of 0 (sample_count S.image)) × (s ≡ slots_of S ++ drop slot_count slots)
+    by_answer (Ok S) o a b n = (S, o, a, b)
+    by_answer (Err w) o a b n = let c = (refusals_closed w).0 in absurd (omega arith)
 
-    go : Dec (slot_count ≤ length slots) → (S : Settings) × Opens bytes scratch area image (opening.Settings S) t i × (r ≡ word_of 0 (sample_count S.image)) × (s ≡ slots_of S ++ drop slot_count slots)
+    go : Dec (slot_count ≤ length slots) → (S : Settings) × Opens bytes scratch area image (Ok S) t i × (r ≡ word_of 0 (sample_count S.image)) × (s ≡ slots_of S ++ drop slot_count slots)
     go (yes h) = let k = c_opens_is p h in by_answer k.0 k.1 k.2 k.3 (ap opened_number k.1.answer ∙ sym (rw (opened_long slots (lent_of scratch area image) bytes h) at (open_number p)) ∙ z)
     go (no h) = let n : number_in r ≡ 3 = open_number p ∙ ap (λ x. opened_number (open_answer x)) (opened_short slots (lent_of scratch area image) bytes (omega arith)) in absurd (omega arith)
 
@@ -306,7 +300,7 @@ pub c_look_opened : {bytes : List ℕ} {scratch area image slots slots' : List �
 unfolding looked_word opened_number looked_value slots_after slots_of
 c_look_opened {bytes} {slots = slots} {slots'} p z l h =
     let k = c_opens_success p z in
-    let e : boundary_looked slots' bytes ≡ opening.Settings k.0 = looked_long slots' bytes h ∙ (look_opened (record { answer = refl; number_is = refl; value_is = refl }) k.1).0 k.0 refl in (
+    let e : boundary_looked slots' bytes ≡ Ok k.0 = looked_long slots' bytes h ∙ (look_opened (record { answer = refl; number_is = refl; value_is = refl }) k.1).0 k.0 refl in (
       l.answer ∙ ap looked_word e,
       ap (take slot_count) (l.settings_area ∙ ap (λ x. slots_after x slots') e) ∙ sym (ap (take slot_count) k.3),
     )
@@ -325,7 +319,7 @@ c_one_image_one_file {b' = b'} {scratch' = scratch'} {area' = area'} {image' = i
     let n : settings_from s ≡ k.0 = slots_name k.0 _ s d.allowed.legal d.named k.3 in
     let n' : settings_from s' ≡ k'.0 = slots_name k'.0 _ s' d'.allowed.legal d'.named k'.3 in
     one_image_one_file g g' k.1
-    (subst (λ (S : Settings). Opens b' scratch' area' image' (opening.Settings S) t' i') (sym n' ∙ sym e ∙ n) k'.1)
+    (subst (λ (S : Settings). Opens b' scratch' area' image' (Ok S) t' i') (sym n' ∙ sym e ∙ n) k'.1)
     (subst (λ (S : Settings). take (table_stride * S.image.nz) t ≡ take (table_stride * S.image.nz) t') n et)
     (subst (λ (S : Settings). take (sample_count S.image) i ≡ take (sample_count S.image) i') n ei)
 

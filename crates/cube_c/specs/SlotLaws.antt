@@ -1,12 +1,11 @@
 -- Slots as the calls leave and take them: the words say number and value, slots that were written are read back, and what passes the slots' tests is the cube's.
-use Rattle.std.specs.Prelude.{◌≡◌, refl, Bool, true, false, ◌||◌, List, ◌++◌, ℕ, ◌<◌, ◌≤◌, ℤ, pos, length}
+use Rattle.std.specs.Prelude.{◌≡◌, refl, Bool, true, false, ◌||◌, List, ◌++◌, ℕ, ◌<◌, ◌≤◌, ℤ, pos, length, Ok, Err}
 use Rattle.std.proofs.Common.{◌∙◌, le-ltb, lt-ltb, le-leb}
 use Rattle.std.proofs.Math.Nat.{mul-add-div_right, mul-add-mod_self_right, mod-eq_of_lt, div-eq_of_lt}
 use native.Mathlib.Omega.{arith}
 use Rattle.std.specs.Int.Signed.{le_z}
 use Rattle.refusals.specs.declared.Refusal.{Refusal}
 use Rattle.refusals.specs.declared.Refusal.TheVariants.{IllegalSetting, SampleOutOfRange, WrongCount, HouseLimit, ShortArea, NoRoom, EndsInHeader, IllegalField, BodyEnds, BadCodeword, AfterEnd, BlockCoder, UnfitFile, RowOutOfTurn, SecondNotRising, NoTablesLent, BadCalibration, NoSerialLeft}
-use Rattle.refusals.specs.declared.Checked.TheVariants as checking
 use Rattle.refusals.specs.Refusals.{number, value}
 use Rattle.refusals.specs.Tests.{first_hit}
 use Rattle.settings.specs.declared.Settings.{Settings}
@@ -51,15 +50,15 @@ six NoSerialLeft e = absurd (omega arith)
 -- ---- the tests of the slots
 
 module _ (slots : List ℤ) where
-  pub slots_short : length slots < slot_count → slots_checked slots ≡ checking.Refused WrongCount
+  pub slots_short : length slots < slot_count → slots_checked slots ≡ Err WrongCount
   unfolding slots_checked first_hit
   slots_short h = rw (lt-ltb (length slots) slot_count h)
 
-  pub slots_unfit : slot_count ≤ length slots → holds slots ≡ false → slots_checked slots ≡ checking.Refused IllegalSetting
+  pub slots_unfit : slot_count ≤ length slots → holds slots ≡ false → slots_checked slots ≡ Err IllegalSetting
   unfolding slots_checked first_hit
   slots_unfit h e = rw (le-ltb (length slots) slot_count h, e)
 
-  pub slots_fit : slot_count ≤ length slots → holds slots ≡ true → slots_checked slots ≡ checking.Passed
+  pub slots_fit : slot_count ≤ length slots → holds slots ≡ true → slots_checked slots ≡ (Ok tt)
   unfolding slots_checked first_hit
   slots_fit h e = rw (le-ltb (length slots) slot_count h, e)
 

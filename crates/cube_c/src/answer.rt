@@ -6,9 +6,9 @@ ghost use Rattle.cube.specs.Answers.{packed_value, opened_value, looked_value};
 ghost use Rattle.cube_c.specs.Answer.{value_limit, word_of, refusal_word, packed_word, opened_word, looked_word};
 ghost use Rattle.cube_c.specs.Boundary.{Storable, slots_after};
 
-use cube::{Opened, Packed};
 use refusals::Refusal;
 use refusals::numbers::numbered;
+use settings::Settings;
 use settings::legal::sample_count;
 use settings_slots::slots::put_settings;
 
@@ -34,46 +34,45 @@ pub fn refusal_word(w: Refusal) -> u64
 }
 
 // Success is the file's length.
-pub fn packed_word(r: Packed) -> u64
+pub fn packed_word(r: Result<u64, Refusal>) -> u64
     requires { packed_value r < value_limit }
     ensures { result ≡ packed_word r }
 {
     match r {
-        Packed::Length(length) => word(0, length),
-        Packed::Refused(w) => refusal_word(w),
+        Ok(length) => word(0, length),
+        Err(w) => refusal_word(w),
     }
 }
 
 // Success is the number of samples.
-pub fn opened_word(r: Opened) -> u64
+pub fn opened_word(r: Result<Settings, Refusal>) -> u64
     requires { opened_value r < value_limit }
     ensures { result ≡ opened_word r }
 {
     match r {
-        Opened::Settings(s) => word(0, sample_count(s.image)),
-        Opened::Refused(w) => refusal_word(w),
+        Ok(s) => word(0, sample_count(s.image)),
+        Err(w) => refusal_word(w),
     }
 }
 
 // Success has no value beside the settings.
-pub fn looked_word(r: Opened) -> u64
+pub fn looked_word(r: Result<Settings, Refusal>) -> u64
     requires { looked_value r < value_limit }
     ensures { result ≡ looked_word r }
 {
     match r {
-        Opened::Settings(_) => 0,
-        Opened::Refused(w) => refusal_word(w),
+        Ok(_) => 0,
+        Err(w) => refusal_word(w),
     }
 }
 
 // The settings of an answer; after a refusal the slots are left as they are.
-pub fn put_answer(r: Opened, l: &mut [i32])
+pub fn put_answer(r: Result<Settings, Refusal>, l: &mut [i32])
     requires slot_count_in_bounds { slot_count ≤ length l.old }
     requires storable { Storable r }
     ensures { l.new ≡ slots_after r l.old }
 {
-    match r {
-        Opened::Settings(s) => put_settings(s, l),
-        Opened::Refused(_) => {}
+    if let Ok(s) = r {
+        put_settings(s, l);
     }
 }

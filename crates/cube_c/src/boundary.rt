@@ -6,7 +6,7 @@ use super::answer::{looked_word, opened_word, packed_word, put_answer, refusal_w
 use cube::look::look;
 use cube::open::open;
 use cube::pack::{length, pack};
-use refusals::{Checked, Refusal};
+use refusals::Refusal;
 use settings_slots::slots::{SLOTS, settings_from, slots_checked};
 
 // A cube into a file. The answer is the file's length, or a refusal.
@@ -20,14 +20,8 @@ pub fn remulingka_pack(
     ensures { CPacks settings.now tables.now samples.now scratch.old out.old result out.new }
 {
     match slots_checked(settings) {
-        Checked::Passed => packed_word(pack(
-            settings_from(settings),
-            tables,
-            samples,
-            scratch,
-            out,
-        )),
-        Checked::Refused(w) => refusal_word(w),
+        Ok(()) => packed_word(pack(settings_from(settings), tables, samples, scratch, out)),
+        Err(w) => refusal_word(w),
     }
 }
 
@@ -41,8 +35,8 @@ pub fn remulingka_length(
     ensures { CLengths settings.now tables.now samples.now scratch.old result }
 {
     match slots_checked(settings) {
-        Checked::Passed => packed_word(length(settings_from(settings), tables, samples, scratch)),
-        Checked::Refused(w) => refusal_word(w),
+        Ok(()) => packed_word(length(settings_from(settings), tables, samples, scratch)),
+        Err(w) => refusal_word(w),
     }
 }
 

@@ -26,9 +26,9 @@ pub record Joins (f : ℕ → List Bool) (w n : ℕ) (t : Tail) (o : List ℕ) (
   pub size : 8 * t'.at + t'.count ≤ 8 * t.at + t.count + w * i
 
 module _ (f : ℕ → List Bool) (w n : ℕ) (t : Tail) (o : List ℕ) where
-  pub joins_begin : t.count < 32 → Joins f w n t o 0 t o
+  pub joins_begin : Joins f w n t o 0 t o
   unfolding join
-  joins_begin h = record { put = put_none t o h; most = omega arith; same = refl; size = omega arith }
+  joins_begin = record { put = put_none t o; most = omega arith; same = refl; size = omega arith }
 
   pub joins_more : (i : ℕ) (t' t'' : Tail) (o' o'' : List ℕ) → Joins f w n t o i t' o' → i < n → length (f i) ≤ w → length o'' ≡ length o' → Put t' o' (f i) t'' o'' → Joins f w n t o (i + 1) t'' o''
   joins_more i t' t'' o' o'' j h l s p =

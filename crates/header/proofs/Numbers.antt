@@ -1,4 +1,5 @@
 -- Fields in a row are read one after the other: each stands behind the widths before it.
+use Rattle.std.specs.Prelude.{Result, Ok, Err}
 use mathlib.Core.Path.{◌≡◌, refl, sym, ap, ◌∙◌}
 use mathlib.Core.Bool.{Bool, true, ◌&&◌, and-eq-true_iff}
 use mathlib.Core.List.{List, [], ◌∷◌}
@@ -9,17 +10,29 @@ use borrow.Author.Tests.{leb-true, le-leb}
 use lib.Dec.{leb}
 use lib.ListN.{length, take, drop, get_or, set, length-set}
 use lib.Seq.{drop-drop, take-suc, take-suc-set, take_all}
+use Rattle.bitstream.specs.declared.read.Unread.{Unread}
 use Rattle.bitstream.specs.Stream.{number}
+use Rattle.bitstream.proofs.Laws.{absurd_path}
 use Rattle.bitstream.specs.Reader.{found}
-use Rattle.bitstream.specs.declared.read.Got.TheVariants.{Value}
 use Rattle.header.specs.Fields.{split}
 use Rattle.header.specs.FieldLaws.{total}
 use Rattle.header.specs.Plain.{fitting}
 
 -- a field that is there is found
-pub found_there : (F : List Bool) (at w : ℕ) → at + w ≤ length F → found F at w ≡ Value (number (take w (drop at F))) (at + w)
+pub found_there : (F : List Bool) (at w : ℕ) → at + w ≤ length F → found F at w ≡ Ok (number (take w (drop at F)), at + w)
 unfolding found
 found_there F at w h = rw (le-leb (at + w) (length F) h)
+
+abbrev value_of : Result (ℕ × ℕ) Unread → ℕ
+value_of (Ok read) = read.0
+value_of (Err why) = 0
+
+-- so its number is the one that an answer gives, and no answer refuses
+pub found_number : (F : List Bool) (at w v next : ℕ) → at + w ≤ length F → found F at w ≡ Ok (v, next) → v ≡ number (take w (drop at F))
+found_number F at w v next h e = sym (ap value_of e) ∙ ap value_of (found_there F at w h)
+
+pub found_no_less : {A : Type 0} (F : List Bool) (at w : ℕ) (why : Unread) → at + w ≤ length F → found F at w ≡ Err why → A
+found_no_less F at w why h e = absurd_path (cc (found_there F at w h, e))
 
 pub record Width (w : ℕ) : Type 0 where
   pub least : 0 < w

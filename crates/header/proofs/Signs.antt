@@ -1,13 +1,18 @@
 -- Numbers that change sign on their way to a field or from it: 32 bits hold them.
-use mathlib.Core.Path.{◌≡◌, refl, sym, ap, ◌∙◌}
-use mathlib.Core.Bool.{true, false, true≢false}
-use Prim.Native.Nat.{ℕ, suc, ◌-◌, ◌^◌, ◌≤◌, ◌<◌}
+use mathlib.Core.Path.{◌≡◌, sym, ap, ◌∙◌}
+use mathlib.Core.Bool.{true}
+use Prim.Native.Nat.{ℕ, zero, suc, ◌+◌, ◌-◌, ◌*◌, ◌%◌, ◌^◌, ◌≤◌, ◌<◌}
+use Rattle.std.proofs.lemmas.Int.{fits_signed_from_abs}
+use Rattle.std.proofs.lemmas.Nat.{pow-add, mod-mul-add}
+use native.Mathlib.Nat.{mod-eq_of_lt, suc-mul}
+use mathlib.Core.Path.{subst}
+use lib.Pow.{pow_pos}
 use native.Mathlib.Decide.{dec_le}
 use native.Mathlib.Omega.{arith}
-use borrow.Author.Tests.{lt-ltb, le-ltb, ltb-true}
+use borrow.Author.Tests.{lt-ltb, le-ltb}
 use lib.Dec.{T}
 use lib.Pow.{pow_mono}
-use lib.Signed.{◌≤ℤ◌, lt_z, non_neg}
+use lib.Signed.{◌≤ℤ◌, non_neg}
 use lib.IntN.{ℤ, pos, negsuc, nat_abs, ◌+ℤ◌, ◌-ℤ◌}
 use mir.Syntax.{w32}
 use mir.Val.{SFits, to_z, of_z}
@@ -52,30 +57,37 @@ accumulator_natural d v h e =
 
 -- ---- two's complement
 
--- the word of a weight from 0 up, and of one below 0
-pub record Word (q : ℕ) (v w : ℤ) : Type 0 where
-  pub natural : Natural w
-  pub is : nat_abs w ≡ twos q v
-  pub most : nat_abs w < 2 ^ q
+one_less : (a w : ℕ) → 0 < a → a * w ≡ (a - 1) * w + w
+one_less zero w h = absurd (omega arith)
+one_less (suc a) w h = let e : suc a - 1 ≡ a = omega arith in rw e (suc-mul a w)
 
-pub word_up : (q : ℕ) (v : ℤ) → 1 ≤ q → q ≤ 22 → weight_legal q v ≡ true → lt_z v (pos 0) ≡ false → Word q v v
-unfolding twos
-word_up q (pos n) h k e t =
-    let m : n < 2 ^ q = twos_lt q (pos n) h e in
-    let p : 2 ^ q ≤ 2 ^ 22 = pow_mono {i = q} {j = 22} k in
-    record { natural = natural (pos n) n refl (omega arith); is = refl; most = m }
-word_up q (negsuc n) h k e t = absurd (true≢false t)
+pub weight_fits : (q : ℕ) (v : ℤ) → q ≤ 22 → weight_legal q v ≡ true → SFits w32 v
+weight_fits q v k e =
+    let m : 2 ^ (q - 1) ≤ 2 ^ 21 = pow_mono {i = q - 1} {j = 21} (omega arith) in
+    fits_signed_from_abs w32 v (omega (arith, (legal_weight q v e).size))
 
-pub word_down : (q r : ℕ) (v : ℤ) → r ≡ 2 ^ q → 1 ≤ q → q ≤ 22 → weight_legal q v ≡ true → lt_z v (pos 0) ≡ true → Word q v (pos r +ℤ v)
+-- the lowest q bits of a weight, which 32 bits hold
+pub record Low (q r : ℕ) (v : ℤ) (w : ℕ) : Type 0 where
+  pub is : w % r ≡ twos q v
+  pub most : w % r < 2 ^ q
+
+low_word : (q : ℕ) (v : ℤ) → 1 ≤ q → q ≤ 22 → weight_legal q v ≡ true → of_z w32 v % 2 ^ q ≡ twos q v
 unfolding twos
-word_down q r (pos n) s h k e t = absurd (omega (arith, ltb-true n 0 t))
-word_down q r (negsuc n) s h k e t =
+low_word q (pos n) h k e = mod-eq_of_lt (twos_lt q (pos n) h e)
+low_word q (negsuc n) h k e =
     let l : suc n ≤ 2 ^ (q - 1) = (legal_weight q (negsuc n) e).size in
     let m : 2 ^ (q - 1) ≤ 2 ^ q = pow_mono {i = q - 1} {j = q} (omega arith) in
-    let p : 2 ^ q ≤ 2 ^ 22 = pow_mono {i = q} {j = 22} k in
-    let d : pos r +ℤ negsuc n ≡ pos (r - suc n) = rw (le-ltb r (suc n) (omega arith)) in
-    let a : nat_abs (pos r +ℤ negsuc n) ≡ r - suc n = ap nat_abs d in
-    record { natural = natural (pos r +ℤ negsuc n) (r - suc n) (sym d) (omega arith); is = a ∙ ap (λ (x : ℕ). x - suc n) s; most = omega arith }
+    let p : 0 < 2 ^ (32 - q) = pow_pos (32 - q) in
+    let c : 32 ≡ 32 - q + q = omega arith in
+    let f : 2 ^ 32 ≡ 2 ^ (32 - q) * 2 ^ q = ap (λ (x : ℕ). 2 ^ x) c ∙ pow-add 2 (32 - q) q in
+    let g : 2 ^ (32 - q) * 2 ^ q ≡ (2 ^ (32 - q) - 1) * 2 ^ q + 2 ^ q = one_less (2 ^ (32 - q)) (2 ^ q) p in
+    let w : 2 ^ 32 - suc n ≡ (2 ^ (32 - q) - 1) * 2 ^ q + (2 ^ q - suc n) = omega arith in
+    ap (λ (x : ℕ). x % 2 ^ q) w ∙ mod-mul-add (2 ^ (32 - q) - 1) (2 ^ q) (2 ^ q - suc n) (omega arith)
+
+pub low_bits : (q r : ℕ) (v : ℤ) → r ≡ 2 ^ q → 1 ≤ q → q ≤ 22 → weight_legal q v ≡ true → Low q r v (of_z w32 v)
+low_bits q r v s h k e =
+    let is : of_z w32 v % r ≡ twos q v = ap (λ (x : ℕ). of_z w32 v % x) s ∙ low_word q v h k e in
+    record { is = is; most = subst (λ (x : ℕ). x < 2 ^ q) (sym is) (twos_lt q v h e) }
 
 pub small_power : (q r : ℕ) → r ≡ 2 ^ q → q ≤ 22 → r < 2 ^ 31
 small_power q r e k = let p : 2 ^ q ≤ 2 ^ 22 = pow_mono {i = q} {j = 22} k in omega arith

@@ -1,18 +1,23 @@
 -- The values that legal settings and tables give to the header's fields, and the parts put together.
-use mathlib.Core.Path.{◌≡◌, sym, ap, ◌∙◌}
+use mathlib.Core.Path.{◌≡◌, refl, sym, ap, ◌∙◌}
 use mathlib.Core.Bool.{Bool, true, false, ◌&&◌, and-eq-true_iff}
 use mathlib.Core.List.{List, [], ◌++◌}
-use Prim.Native.Nat.{ℕ, ◌-◌, ◌*◌, ◌≤◌, ◌<◌}
-use native.Mathlib.Nat.{mul-le-mul}
+use Prim.Native.Nat.{ℕ, ◌+◌, ◌-◌, ◌*◌, ◌^◌, ◌≤◌, ◌<◌}
+use native.Mathlib.Nat.{mul-le-mul, pow-suc}
+use native.Mathlib.Numerals.{add-one}
 use native.Mathlib.Omega.{arith}
+use native.Mathlib.Decide.{dec_le}
+use lib.Pow.{pow_mono, pow_pos}
 use lib.IntN.{ℤ, pos, negsuc}
 use lib.Dec.{leb→le}
 use lib.Signed.{◌≤ℤ◌}
 use mir.Syntax.{w32}
-use mir.Val.{SFits}
-use lib.ListN.{length}
+use mir.Val.{SFits, to_z, of_z, bool_byte}
+use mir.Facts.{to_z-of_z}
+use lib.ListN.{length, take, drop, get_or}
+use Rattle.std.proofs.lemmas.List.{length-take, length-take-le, length-drop, get_or-take, get_or-drop}
 use Rattle.bitstream.specs.Stream.{bits, zeros, filling, filled}
-use Rattle.bitstream.proofs.Laws.{bits_zero, length_bits}
+use Rattle.bitstream.proofs.Laws.{length_bits}
 use Rattle.bitstream.specs.Writer.{Put}
 use Rattle.bitstream.specs.declared.write.Tail.{Tail}
 use Rattle.bitstream.proofs.Writes.{put_then, put_as}
@@ -24,13 +29,14 @@ use Rattle.settings.specs.ListLaws.{length_join_same}
 use Rattle.settings.specs.Legal.{settings_legal, image_legal, predictor_legal, coder_legal}
 use Rattle.settings.specs.Limits.{most_bands}
 use Rattle.settings.specs.LegalLaws.{LegalSettings, LegalPredictor, Power, legal_settings, limited_facts}
-use Rattle.settings.specs.Tables.{parameter_slot, entry, component_count, weight_legal, accumulator_legal}
+use Rattle.settings.specs.Tables.{table_stride, parameter_slot, entry, component_count, weight_legal, accumulator_legal}
 use Rattle.settings.specs.TableLaws.{components_fit, legal_tables, weight_legal_lem, accumulator_legal_lem}
+use Rattle.header.proofs.Signs.{weight_fits}
+use Rattle.header.specs.Fields.{flag}
 use Rattle.header.specs.Parts.{exponent_of}
 use Rattle.header.specs.PartLaws.{exponent_power, ≤ℤ-trans}
 use Rattle.header.specs.Tables.{twos, weight_table, accumulator_table}
 use Rattle.header.specs.Write.{weight_part, accumulator_part}
-use Rattle.header.specs.Sizes.{padded}
 use Rattle.header.specs.Writing.{Writable}
 use Rattle.header.specs.SizeLaws.{cond_true}
 
@@ -80,13 +86,34 @@ band_most q n tables z h k =
     let m : q * n ≤ 22 * 18 = mul-le-mul h k in
     omega arith
 
+-- weight i of a band is item i of the part of the area that the band's weights fill
+abbrev pub band_part : List ℤ → ℕ → ℕ → List ℤ
+band_part tables z n = take (table_stride * z + n - table_stride * z) (drop (table_stride * z) tables)
+
+pub length_band_part : (tables : List ℤ) (z n : ℕ) → table_stride * z + n ≤ length tables → length (band_part tables z n) ≡ n
+length_band_part tables z n h =
+    let e : table_stride * z + n - table_stride * z ≡ n = omega arith in
+    rw e (length-take-le n (drop (table_stride * z) tables) (rw length-drop (omega arith)))
+
+pub record WeightTaken (S : Settings) (tables : List ℤ) (z n i : ℕ) : Type 0 where
+  pub room : i < n
+  pub legal : weight_legal S.predictor.precision (entry tables z i) ≡ true
+  pub is : to_z w32 (of_z w32 (get_or (band_part tables z n) i (pos 0))) ≡ entry tables z i
+
+pub weight_taken : (S : Settings) (tables : List ℤ) (z n i : ℕ) → Writable S tables → S.predictor.custom ≡ true → z < S.image.nz → n ≡ component_count S.predictor z → i < length (band_part tables z n) → WeightTaken S tables z n i
+unfolding entry
+weight_taken S tables z n i w c h e k =
+    let m : i < n = omega (arith, length-take (table_stride * z + n - table_stride * z) (drop (table_stride * z) tables)) in
+    let l = weight_at S tables w z h i c (omega (arith, e)) in
+    let there : get_or (band_part tables z n) i (pos 0) ≡ get_or tables (table_stride * z + i) (pos 0) =
+    get_or-take _ (drop (table_stride * z) tables) i (pos 0) (omega arith) ∙ get_or-drop (table_stride * z) tables i (pos 0) in
+    record { room = m; legal = l; is = rw there (to_z-of_z (weight_fits S.predictor.precision _ (narrow S z (facts S tables w) c).most l)) }
+
 -- ---- a table and its fill
 
-pub put_filled : {t t' t'' : Tail} {o o' o'' : List ℕ} (table : List Bool) (n fill : ℕ) → length table ≡ n → fill ≡ padded n - n → Put t o table t' o' → Put t' o' (bits fill 0) t'' o'' → Put t o (filled 8 table) t'' o''
+pub put_filled : {t t' t'' : Tail} {o o' o'' : List ℕ} (table : List Bool) (n : ℕ) → length table ≡ n → Put t o table t' o' → Put t' o' (zeros (filling 8 n)) t'' o'' → Put t o (filled 8 table) t'' o''
 unfolding filled
-put_filled table n fill e q p r =
-    let f : fill ≡ filling 8 (length table) = omega (arith, ap (filling 8) e) in
-    put_as (ap (λ (x : List Bool). table ++ x) (bits_zero fill ∙ ap zeros f)) (put_then p r)
+put_filled table n e p r = put_as (ap (λ (k : ℕ). table ++ zeros (filling 8 k)) (sym e)) (put_then p r)
 
 -- the parts where there is a table, and where there is none
 pub weight_part_is : (S : Settings) (tables : List ℤ) → S.predictor.custom ≡ true → filled 8 (weight_table S.predictor S.image.nz tables) ≡ weight_part S tables
@@ -107,10 +134,30 @@ no_accumulator_part S tables e = rw e
 
 -- ---- the predictor's numbers
 
-pub exponent_least : (x : ℕ) → Power x → 4 ≤ exponent_of 11 x
-exponent_least x p =
+-- what a flag converts to is its field
+pub from_flag : (b : Bool) → bool_byte b ≡ flag b
+from_flag true = refl
+from_flag false = refl
+
+-- the exponent of a power of two, which stands between two powers
+pub record Log (x r : ℕ) : Type 0 where
+  pub is : r ≡ exponent_of 11 x
+  pub least : 4 ≤ r
+
+between : (r e : ℕ) → 2 ^ r ≤ 2 ^ e → 2 ^ e < 2 ^ (r + 1) → Dec (r ≤ e) → Dec (e ≤ r) → r ≡ e
+between r e low high (no k) d = let t : 2 ^ (e + 1) ≡ 2 ^ e * 2 = rw add-one (pow-suc 2 e) in let m : 2 ^ (e + 1) ≤ 2 ^ r = pow_mono {i = e + 1} {j = r} (omega arith) in let p = pow_pos e in absurd (omega arith)
+between r e low high (yes k) (no l) = let m : 2 ^ (r + 1) ≤ 2 ^ e = pow_mono {i = r + 1} {j = e} (omega arith) in absurd (omega arith)
+between r e low high (yes k) (yes l) = omega arith
+
+pub power_some : (x : ℕ) → Power x → 0 < x
+power_some x p = rw p.is (pow_pos p.exponent)
+
+pub power_log : (x r : ℕ) → Power x → 2 ^ r ≤ x → x < 2 * 2 ^ r → Log x r
+power_log x r p low high =
     let e : exponent_of 11 x ≡ p.exponent = ap (exponent_of 11) p.is ∙ exponent_power 11 p.exponent p.most in
-    omega (arith, p.least)
+    let t : 2 ^ (r + 1) ≡ 2 ^ r * 2 = rw add-one (pow-suc 2 r) in
+    let k : r ≡ p.exponent = between r p.exponent (omega (arith, p.is)) (omega (arith, p.is)) (dec_le r p.exponent) (dec_le p.exponent r) in
+    record { is = k ∙ sym e; least = omega (arith, p.least) }
 
 -- an end of the weight exponent's range
 pub record End (v : ℤ) : Type 0 where

@@ -1,5 +1,5 @@
 -- Each part of the header read: what was written is read, and what is read was written by legal settings.
-use Rattle.std.specs.Prelude.{◌≡◌, refl, Bool, true, false, not, cond, ◌&&◌, List, [], ◌∷◌, ◌++◌, ℕ, ◌+◌, ◌-◌, ◌*◌, ◌≤◌, ◌<◌, leb, ltb, eqb, ℤ, nat_abs, length, take, drop}
+use Rattle.std.specs.Prelude.{◌≡◌, refl, Bool, true, false, not, cond, ◌&&◌, List, [], ◌∷◌, ◌++◌, ℕ, ◌+◌, ◌-◌, ◌*◌, ◌≤◌, ◌<◌, leb, ltb, eqb, ℤ, nat_abs, length, take, drop, Result, Ok, Err, ⊤}
 use Rattle.std.proofs.Common.{sym, ap, ap₂, ◌∙◌, append_assoc, arith, ltb-false, le-ltb, leb-true, le-leb, length-append, take-append-drop, take_at, drop_at, length-take-le}
 use Rattle.std.proofs.Math.Bool.{and-eq-true_iff}
 use Rattle.std.proofs.lemmas.Bool.{false≢true, eqb-false, not-false}
@@ -7,8 +7,6 @@ use Rattle.std.proofs.lemmas.List.{length-replicate}
 use Rattle.bitstream.specs.Stream.{filling, filled}
 use Rattle.bitstream.proofs.Laws.{absurd_path}
 use Rattle.refusals.specs.declared.Refusal.TheVariants.{EndsInHeader, IllegalField, HouseLimit, BlockCoder}
-use Rattle.refusals.specs.declared.Checked.{Checked}
-use Rattle.refusals.specs.declared.Checked.TheVariants.{Passed, Refused}
 use Rattle.refusals.specs.Tests.{Test, ◌⇒◌, first_hit}
 use Rattle.refusals.specs.Reading.{Read, got, unless}
 use Rattle.refusals.specs.ReadingLaws.{passed}
@@ -28,6 +26,7 @@ use Rattle.header.specs.Write.{weight_part, accumulator_part}
 use Rattle.header.specs.Read.{present, read_image, read_predictor, read_coder, read_table, read_weights, read_accumulators}
 use Rattle.header.specs.FieldLaws.{same_true, same_refl, split_lt}
 use Rattle.header.specs.PartLaws.{length_image, length_predictor, length_coder, image_back, coder_type_back, predictor_back, coder_back, image_written, predictor_written, coder_written, image_legal_used, limited_used, predictor_legal_used, coder_legal_used, image_named, predictor_named, coder_named}
+use Rattle.refusals.specs.declared.Refusal.{Refusal}
 use Rattle.header.specs.TableLaws.{length_weights, length_accumulators, accumulator_read}
 
 -- ---- one part: n bits that pass a test b and are those of f, then further tests
@@ -35,16 +34,16 @@ use Rattle.header.specs.TableLaws.{length_weights, length_accumulators, accumula
 abbrev part : {A : Type 0} → ℕ → Bool → List Bool → List Test → A → List Bool → Read A
 part n b f ts a l = present n l (unless (first_hit (not (b && same (take n l) f) ⇒ IllegalField ∷ ts)) (got a (drop n l)))
 
-part_read : {A : Type 0} (n : ℕ) (b : Bool) (f g : List Bool) (ts : List Test) (a : A) (r : List Bool) → length f ≡ n → b ≡ true → g ≡ f → first_hit ts ≡ Passed
+part_read : {A : Type 0} (n : ℕ) (b : Bool) (f g : List Bool) (ts : List Test) (a : A) (r : List Bool) → length f ≡ n → b ≡ true → g ≡ f → first_hit ts ≡ (Ok tt)
     → part n b g ts a (f ++ r) ≡ got a r
 unfolding first_hit
 part_read n b f g ts a r e h q p =
     let long : n ≤ length (f ++ r) = rw (length-append f r) (omega arith) in
     rw (le-ltb (length (f ++ r)) n long, h, q, take_at f r n e, same_refl f, p, drop_at f r n e)
 
-none_failed : {A : Type 0} (a b : A) (l r : List Bool) (c : Checked) → unless c (got a l) ≡ got b r → (a ≡ b) × (l ≡ r)
-none_failed a b l r Passed e = (cc, cc)
-none_failed a b l r (Refused why) e = absurd_path (cc)
+none_failed : {A : Type 0} (a b : A) (l r : List Bool) (c : Result ⊤ Refusal) → unless c (got a l) ≡ got b r → (a ≡ b) × (l ≡ r)
+none_failed a b l r (Ok tt) e = (cc, cc)
+none_failed a b l r (Err why) e = absurd_path (cc)
 
 record PartIs {A : Type 0} (n : ℕ) (b : Bool) (f : List Bool) (ts : List Test) (a : A) (l : List Bool) (x : A) (r : List Bool) : Type 0 where
   there : n ≤ length l

@@ -8,9 +8,9 @@ ghost use Rattle.header.specs.FieldLaws.{total};
 ghost use Rattle.header.specs.Plain.{fitting};
 ghost use Rattle.header.specs.Writing.{fields_of};
 
-use bitstream::read::{Got, get};
-use bitstream::write::{Tail, put};
-use settings::range::power;
+use bitstream::read::get;
+use bitstream::write::Tail;
+use integers::power_of;
 
 // The number of `width` bits at a position, all of them in the file.
 pub fn number_at(file: &[u8], at: usize, width: u32) -> u32
@@ -18,9 +18,8 @@ pub fn number_at(file: &[u8], at: usize, width: u32) -> u32
     ensures { result ≡ number (take width (drop at (unpack file.now))) }
 {
     match get(file, at, width) {
-        Got::Value(value, _) => value,
-        Got::Short => 0,
-        Got::Bad => 0,
+        Ok((value, _)) => value,
+        Err(_) => 0,
     }
 }
 
@@ -30,26 +29,21 @@ pub fn numbers(file: &[u8], at: usize, widths: &[u32], values: &mut [u32])
     ensures { values.new ≡ split widths.now (drop at (unpack file.now)) }
 {
     let mut next = at;
-    let mut i = 0;
-    while i < widths.len() {
+    for (i, value) in values.iter_mut().enumerate() {
         let width = widths[i];
-        values[i] = number_at(file, next, width);
+        *value = number_at(file, next, width);
         next += width as usize;
-        i += 1;
     }
 }
 
 // Puts fields of these widths, one after the other, each with its value modulo 2^width.
 pub fn put_fields(t: Tail, out: &mut [u8], widths: &[u32], values: &[u32]) -> Tail
-    requires { (fitting widths.now ≡ true) × (length values.now ≡ length widths.now) × (length widths.now ≤ 64) × (t.count < 32) × (t.at ≤ file_ceiling) }
+    requires { (fitting widths.now ≡ true) × (length values.now ≡ length widths.now) × (length widths.now ≤ 64) × (t.at ≤ file_ceiling) }
     ensures { Put t out.old (fields (fields_of widths.now values.now)) result out.new }
 {
     let mut tail = t;
-    let mut i = 0;
-    while i < widths.len() {
-        let width = widths[i];
-        tail = put(tail, out, values[i] % power(width), width);
-        i += 1;
+    for (width, value) in widths.iter().zip(values) {
+        tail = tail.put(out, *value % power_of(*width), *width);
     }
     tail
 }

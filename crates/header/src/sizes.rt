@@ -1,9 +1,9 @@
 // The sizes of the tables, known from the settings before a bit is read or written.
-ghost use Rattle.std.specs.Prelude.{◌≡◌, true, List, ◌+◌, ◌*◌, ◌≤◌, ◌<◌, ◌^◌, ℤ, length};
+ghost use Rattle.std.specs.Prelude.{◌≡◌, true, List, ◌+◌, ◌*◌, ◌≤◌, ℤ, length};
 ghost use Rattle.settings.specs.Legal.{predictor_legal, settings_legal, limited};
 ghost use Rattle.settings.specs.Limits.{most_bands, most_components, most_weight_bits, most_parameter_bits, table_ceiling};
 ghost use Rattle.header.specs.Tables.{components_before};
-ghost use Rattle.header.specs.Sizes.{padded, weight_bits, weights_size, accumulators_size, header_size};
+ghost use Rattle.header.specs.Sizes.{padded, weight_bits, weights_size, accumulators_size};
 ghost use Rattle.header.specs.Write.{header};
 
 use settings::tables::component_count;
@@ -23,11 +23,9 @@ fn components_before(p: Predictor, bands: usize) -> usize
     requires { (p.bands ≤ 15) × (bands ≤ most_bands) }
     ensures { (result ≡ components_before p bands) × (result ≤ most_components) }
 {
-    let mut sum: usize = 0;
-    let mut z: usize = 0;
-    while z < bands {
+    let mut sum = 0;
+    for z in 0..bands {
         sum += component_count(p, z);
-        z += 1;
     }
     sum
 }

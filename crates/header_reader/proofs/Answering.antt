@@ -1,6 +1,6 @@
 -- A part is refused by the first of its tests that fails, and what was read stands at a position that the part's size gives.
-use mathlib.Core.Path.{◌≡◌, refl, sym, ap, ◌∙◌}
-use mathlib.Core.Bool.{Bool, true, false, not, ◌&&◌}
+use mathlib.Core.Path.{◌≡◌, sym, ap, ◌∙◌}
+use mathlib.Core.Bool.{Bool, true, false, not, ◌&&◌, and-true}
 use mathlib.Core.List.{List, [], ◌∷◌}
 use Prim.Native.Nat.{ℕ, ◌+◌, ◌/◌, ◌≤◌, ◌<◌}
 use native.Mathlib.Decide.{dec_le}
@@ -89,10 +89,6 @@ module _ {x : Read Image} {pass : Bool} {kind : ℕ} {I : Image} {l : List Bool}
 
 -- ---- the three parts as such
 
-and_true : (a : Bool) → (a && true) ≡ a
-and_true true = refl
-and_true false = refl
-
 pub image_part : (l : List Bool) (v : List ℕ) (I : Image) (legal plain : Bool) → ltb (length l) image_bits ≡ false → v ≡ split image_widths l → I ≡ image_of v → legal ≡ image_legal I → plain ≡ image_plain v
     → PartSeen (read_image l) image_bits (legal && plain) (eqb (v ‼ coder_type) 1 ⇒ BlockCoder ∷ not (limited I) ⇒ HouseLimit ∷ []) I l
 unfolding read_image
@@ -106,7 +102,7 @@ predictor_part I l v P legal plain h e q b d = record { there = h; is = rw (b, d
 pub coder_part : (I : Image) (l : List Bool) (v : List ℕ) (C : Coder) (legal : Bool) → ltb (length l) coder_bits ≡ false → v ≡ split coder_widths l → C ≡ coder_of v
     → legal ≡ coder_legal I C → PartSeen (read_coder I l) coder_bits legal [] C l
 unfolding read_coder
-coder_part I l v C legal h e q b = record { there = h; is = rw (b, q, e, coder_plain l (ltb-false (length l) coder_bits h), and_true) }
+coder_part I l v C legal h e q b = record { there = h; is = rw (b, q, e, coder_plain l (ltb-false (length l) coder_bits h), and-true) }
 
 -- ---- from an answer back to what was read
 

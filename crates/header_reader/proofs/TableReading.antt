@@ -1,9 +1,13 @@
 -- A table is there with its fill, which is zero, exactly when the definition reads it; its entries stand in the file in a row.
 use mathlib.Core.Path.{◌≡◌, refl, sym, ap, ap₂, ◌∙◌}
-use mathlib.Core.Bool.{Bool, true, false, ◌&&◌}
-use mathlib.Core.List.{List, [], ◌∷◌, ◌++◌}
+use mathlib.Core.Bool.{Bool, true, false, ◌&&◌, and-true}
+use mathlib.Core.List.{List, [], ◌∷◌, ◌++◌, map}
 use Prim.Native.Nat.{ℕ, zero, suc, ◌+◌, ◌-◌, ◌*◌, ◌≤◌, ◌<◌}
-use native.Mathlib.Nat.{mod-eq_of_lt}
+use native.Mathlib.Nat.{mod-eq_of_lt, zero-add}
+use native.Mathlib.Numerals.{add-one}
+use Rattle.std.specs.List.{list_all, range_with_len}
+use Rattle.std.proofs.lemmas.List.FromFn.{map-range_with_len_more}
+use Rattle.std.proofs.lemmas.List.Folds.{list_all-append, list_all-map}
 use native.Mathlib.Omega.{arith}
 use borrow.Author.Tests.{ltb-false, eq-eqb, eqb-true}
 use lib.Dec.{leb, ltb, eqb}
@@ -27,6 +31,19 @@ use Rattle.header.specs.SizeLaws.{cond_true}
 use Rattle.header_values.proofs.Positions.{number_in_file}
 use Rattle.header_reader.proofs.PlainLaws.{both}
 use Rattle.header_reader.proofs.Answering.{PartSeen, missing, absent}
+
+-- ---- a test of every number
+
+tested : (test : ℕ → Bool) (n : ℕ) → list_all (λ b. b) (map test (range_with_len 0 n)) ≡ every n test
+unfolding every
+tested test zero = refl
+tested test (suc n) =
+    let last : map test (range_with_len 0 (suc n)) ≡ map test (range_with_len 0 n) ++ test n ∷ [] =
+    ap (λ (k : ℕ). map test (range_with_len 0 k)) (sym (add-one n)) ∙ map-range_with_len_more test 0 n n (zero-add n) in
+    ap (list_all (λ b. b)) last ∙ list_all-append (λ b. b) (map test (range_with_len 0 n)) (test n ∷ []) ∙ ap₂ (λ (x y : Bool). x && y) (tested test n) (and-true (test n))
+
+pub every_listed : (test : ℕ → Bool) (n : ℕ) → list_all test (range_with_len 0 n) ≡ every n test
+every_listed test n = sym (list_all-map (λ b. b) test (range_with_len 0 n)) ∙ tested test n
 
 -- ---- the fill
 

@@ -1,16 +1,19 @@
 -- The slots of the table area: each is a number of a table that stands in the file, and they are laid one behind the other.
 use mathlib.Core.Path.{◌≡◌, refl, sym, ap, ◌∙◌, subst}
 use mathlib.Core.Logic.{◌≢◌, ⊎_elim}
-use mathlib.Core.Bool.{Bool, true, false, cond, ◌&&◌, ◌||◌}
-use mathlib.Core.List.{List, [], ◌∷◌, ◌++◌, append_assoc}
+use mathlib.Core.Bool.{Bool, true, false, cond, ◌&&◌}
+use mathlib.Core.List.{List, [], ◌++◌, append_assoc}
 use Prim.Native.Nat.{ℕ, zero, suc, ◌+◌, ◌-◌, ◌*◌, ◌^◌, ◌≤◌, ◌<◌}
 use native.Mathlib.Nat.{mul-le-mul_left}
 use native.Mathlib.Omega.{arith}
 use borrow.Author.Tests.{lt-ltb, le-ltb, ne_eqb}
 use lib.Dec.{ltb, eqb}
 use lib.IntN.{ℤ, pos, ◌-ℤ◌}
-use lib.ListN.{length, take, drop, get_or, set, length-append, length-drop, length-set}
-use lib.Seq.{take_at, take-suc, take_all, set_at, length-take-le}
+use lib.ListN.{length, take, drop, get_or, length-append, length-drop}
+use lib.Seq.{take_at, drop_at, take-add, drop-drop, take_all, length-take-le}
+use Rattle.std.proofs.lemmas.Bool.{and_left, and_right, or_from}
+use Rattle.std.proofs.lemmas.List.{ext_get_or, get_or-take, get_or-drop}
+use borrow.Rule.Slice.PartMut.{put_mid}
 use mir.Syntax.{w32}
 use mir.Val.{SFits, to_z, of_z}
 use mir.Facts.{to_z_pos, to_z-of_z}
@@ -19,7 +22,7 @@ use Rattle.bitstream.proofs.Laws.{absurd_path}
 use Rattle.refusals.specs.Reading.{Read, got}
 use Rattle.settings.specs.declared.Settings.{Settings}
 use Rattle.settings.specs.ListLaws.{sum_below_holds}
-use Rattle.settings.specs.Limits.{most_bands, most_components, most_weight_bits, most_parameter_bits}
+use Rattle.settings.specs.Limits.{most_components, most_weight_bits, most_parameter_bits}
 use Rattle.settings.specs.LegalLaws.{legal_predictor}
 use Rattle.settings.specs.Tables.{table_stride, parameter_slot, entry, component_count}
 use Rattle.settings.specs.TableLaws.{components_fit}
@@ -164,9 +167,6 @@ module _ (F : List Bool) (S : Settings) (at : ℕ) (d : AccumulatorsDone F S at)
   pub weight_from : (z i first : ℕ) → S.predictor.custom ≡ true → first ≡ components_before S.predictor z → z < S.image.nz → i < component_count S.predictor z → WeightAt i first
   weight_from z i first c e h k = subst (λ (n : ℕ). WeightAt i n) (sym e) (let w = weight_in z i c h k in record { room = w.room; small = w.small; few = w.few; least = w.least; most = w.most })
 
-  pub bands_few : S.image.nz ≤ most_bands
-  bands_few = (coder_facts F S at d.before).before.image.bands
-
   pub components_few : (z : ℕ) → component_count S.predictor z ≤ 18
   components_few z = components_fit S.predictor z (legal_predictor S.image S.predictor (coder_facts F S at d.before).before.legal).bands_most
 
@@ -197,34 +197,12 @@ module _ (F : List Bool) (S : Settings) (at : ℕ) (d : AccumulatorsDone F S at)
   unfolding entry
   slot_stored h l e z i m k = ap (λ (T : List ℤ). get_or T (table_stride * z + i) (pos 0)) (tables_are h l e) ∙ slot_of z i m k
 
--- ---- one value laid behind the others
-
-drop_here : (l : List ℤ) (n : ℕ) → n < length l → drop n l ≡ get_or l n (pos 0) ∷ drop (suc n) l
-drop_here [] n h = absurd (omega arith)
-drop_here (x ∷ l) zero h = refl
-drop_here (x ∷ l) (suc n) h = drop_here l n (omega arith)
-
-pub laid_more : (T first : List ℤ) (n : ℕ) → n < length T → length T ≤ length first → set (laid T n first) n (get_or T n (pos 0)) ≡ laid T (n + 1) first
-laid_more T first n h k =
-    let e : n + 1 ≡ suc n = omega arith in
-    ap (λ (x : List ℤ). set (take n T ++ x) n (get_or T n (pos 0))) (drop_here first n (omega arith))
-    ∙ set_at (take n T) _ (drop (suc n) first) (get_or T n (pos 0)) n (length-take-le n T (omega arith))
-    ∙ rw (e, take-suc T n (pos 0) h, append_assoc)
+-- ---- all values laid
 
 pub laid_all : (T first : List ℤ) (n : ℕ) → length T ≡ n → laid T n first ≡ T ++ drop n first
 laid_all T first n e = ap (λ (x : List ℤ). x ++ drop n first) (take_all n T (omega arith))
 
 -- ---- a slot by its case
-
-both_false : (a b : Bool) → a ≡ false → b ≡ false → (a || b) ≡ false
-both_false a b e f = rw (e, f)
-
-left_false : (a b : Bool) → a ≡ false → (a && b) ≡ false
-left_false a b e = rw e
-
-right_false : (a b : Bool) → b ≡ false → (a && b) ≡ false
-right_false true b e = e
-right_false false b e = refl
 
 module _ (F : List Bool) (S : Settings) (at first z i : ℕ) where
   abbrev weights : Bool
@@ -238,15 +216,15 @@ module _ (F : List Bool) (S : Settings) (at first z i : ℕ) where
 
   pub slot_single : AccumulatorsDone F S at → i ≡ parameter_slot → S.coder.tabled ≡ false → pos 0 ≡ slot_in F S at first z i
   unfolding used
-  slot_single d e t = unused (both_false weights entries (right_false S.predictor.custom _ (le-ltb i (component_count S.predictor z) (omega (arith, components_few F S at d z)))) (left_false S.coder.tabled (eqb i parameter_slot) t))
+  slot_single d e t = unused (or_from weights entries (and_right S.predictor.custom _ (le-ltb i (component_count S.predictor z) (omega (arith, components_few F S at d z)))) (and_left S.coder.tabled (eqb i parameter_slot) t))
 
   pub slot_default : i ≢ parameter_slot → S.predictor.custom ≡ false → pos 0 ≡ slot_in F S at first z i
   unfolding used
-  slot_default e c = unused (both_false weights entries (left_false S.predictor.custom (ltb i (component_count S.predictor z)) c) (right_false S.coder.tabled _ (ne_eqb i parameter_slot e)))
+  slot_default e c = unused (or_from weights entries (and_left S.predictor.custom (ltb i (component_count S.predictor z)) c) (and_right S.coder.tabled _ (ne_eqb i parameter_slot e)))
 
   pub slot_beyond : i ≢ parameter_slot → component_count S.predictor z ≤ i → pos 0 ≡ slot_in F S at first z i
   unfolding used
-  slot_beyond e k = unused (both_false weights entries (right_false S.predictor.custom _ (le-ltb i _ k)) (right_false S.coder.tabled _ (ne_eqb i parameter_slot e)))
+  slot_beyond e k = unused (or_from weights entries (and_right S.predictor.custom _ (le-ltb i _ k)) (and_right S.coder.tabled _ (ne_eqb i parameter_slot e)))
 
   pub slot_accumulator : i ≡ parameter_slot → S.coder.tabled ≡ true → (r : ℤ) → r ≡ pos (number (take 4 (drop (at + 4 * z) F))) → r ≡ slot_in F S at first z i
   slot_accumulator e t r q = q ∙ rw (e, used_accumulator S z t)
@@ -284,40 +262,27 @@ lowering q v half r e f m h k =
       is = rw (to_z_pos w32 v₁, to_z_pos w32 s) (to_z-of_z f₁ ∙ ap (λ (n : ℕ). pos v -ℤ pos n) f ∙ signed_high q v (omega arith));
     }
 
--- ---- band z up to slot i
+-- ---- the slots of band z, each with the value that it is due
 
-pub record Laying (F : List Bool) (z : ℕ) (begun : List ℤ) (i : ℕ) (area : List ℤ) : Type 0 where
-  pub most : i ≤ table_stride
-  pub long : length area ≡ length begun
-  pub stored : (h : Header) (l : List Bool) (first : List ℤ) → read_header F ≡ got h l → begun ≡ laid h.tables (table_stride * z) first → area ≡ laid h.tables (table_stride * z + i) first
-
-pub laying_begin : (F : List Bool) (z : ℕ) (begun : List ℤ) → Laying F z begun 0 begun
-laying_begin F z begun =
-    let e : table_stride * z ≡ table_stride * z + 0 = omega arith in
-    record { most = omega arith; long = refl; stored = λ h l first r b. b ∙ ap (λ (n : ℕ). laid h.tables n first) e }
-
-pub laying_more : (F : List Bool) (S : Settings) (at first z : ℕ) (begun : List ℤ) (i : ℕ) (area : List ℤ) → AccumulatorsDone F S at → first ≡ components_before S.predictor z → z < S.image.nz → table_stride * S.image.nz ≤ length begun → Laying F z begun i area → i < table_stride
-    → (v : ℤ) → v ≡ slot_in F S at first z i → Laying F z begun (i + 1) (set area (table_stride * z + i) v)
-laying_more F S at first z begun i area d c h m y k v e =
+pub band_laid : (F : List Bool) (S : Settings) (at first z : ℕ) (begun slots : List ℤ) (n : ℕ) → n ≡ table_stride → AccumulatorsDone F S at → first ≡ components_before S.predictor z → z < S.image.nz → table_stride * S.image.nz ≤ length begun → length slots ≡ table_stride
+    → ((i : ℕ) → i < table_stride → get_or slots i (pos 0) ≡ slot_in F S at first z i) → BandStored F z begun (put_mid (table_stride * z) n begun slots)
+band_laid F S at first z begun slots n k d c h m l due =
+    let a : ℕ = table_stride * z in
     record {
-      most = omega arith;
-      long = length-set area (table_stride * z + i) v ∙ y.long;
-      stored = λ t l f r b.
+      long = rw (length-append, length-append, length-take-le a begun (omega arith), length-drop, length-drop, l) (omega arith);
+      stored = λ t r f e b.
           let T : List ℤ = t.tables in
-          let n : length T ≡ table_stride * S.image.nz = length_tables F S at d t l r in
-          let p : length begun ≡ table_stride * z + (length f - table_stride * z) = ap length b ∙ length-append (take (table_stride * z) T) (drop (table_stride * z) f) ∙ rw (length-take-le (table_stride * z) T (omega arith), length-drop (table_stride * z) f) in
-          let w : v ≡ get_or T (table_stride * z + i) (pos 0) = e ∙ ap (λ (x : ℕ). slot_in F S at x z i) c ∙ sym (slot_stored F S at d t l r z i h k) in
-          let u : table_stride * z + i + 1 ≡ table_stride * z + (i + 1) = omega arith in
-          ap (λ (x : List ℤ). set x (table_stride * z + i) v) (y.stored t l f r b)
-          ∙ ap (set (laid T (table_stride * z + i) f) (table_stride * z + i)) w
-          ∙ laid_more T f (table_stride * z + i) (omega arith) (omega arith)
-          ∙ ap (λ (x : ℕ). laid T x f) u;
+          let long : length T ≡ table_stride * S.image.nz = length_tables F S at d t r e in
+          let front : length (take a T) ≡ a = length-take-le a T (omega arith) in
+          let before : take a begun ≡ take a T = ap (take a) b ∙ take_at (take a T) (drop a f) a front in
+          let after : drop a begun ≡ drop a f = ap (drop a) b ∙ drop_at (take a T) (drop a f) a front in
+          let part : length (take table_stride (drop a T)) ≡ table_stride = length-take-le table_stride (drop a T) (rw (length-drop a T) (omega arith)) in
+          let band : slots ≡ take table_stride (drop a T) =
+          ext_get_or (pos 0) slots (take table_stride (drop a T)) (l ∙ sym part) (λ i g.
+          let u : i < table_stride = omega arith in
+          due i u ∙ ap (λ (x : ℕ). slot_in F S at x z i) c ∙ sym (get_or-take table_stride (drop a T) i (pos 0) u ∙ get_or-drop a T i (pos 0) ∙ slot_stored F S at d t r e z i h u)) in
+          rw (before, after, band, k, drop-drop, take-add, append_assoc);
     }
-
-pub laying_all : (F : List Bool) (z : ℕ) (begun : List ℤ) (i : ℕ) (area : List ℤ) → Laying F z begun i area → table_stride ≤ i → BandStored F z begun area
-laying_all F z begun i area y k =
-    let e : i ≡ table_stride = omega (arith, y.most) in
-    record { long = y.long; stored = λ h l first r b. y.stored h l first r b ∙ ap (λ (n : ℕ). laid h.tables (table_stride * z + n) first) e }
 
 -- ---- the bands before band z
 

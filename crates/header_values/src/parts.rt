@@ -1,12 +1,12 @@
 // The settings that the numbers of a part's fields name, and what its fields must hold beside them.
-ghost use Rattle.std.specs.Prelude.{◌≡◌, cond, ℕ, ◌≤◌, ◌<◌, ◌^◌};
+ghost use Rattle.std.specs.Prelude.{◌≡◌, ◌<◌};
 ghost use Rattle.header.specs.Places.{◌‼◌, user_data, weight_resolution, exponent_interval, initial_exponent, final_exponent, rescaling_size};
 ghost use Rattle.header.specs.Parts.{unwrapped, image_of, predictor_of, coder_of};
 ghost use Rattle.header.specs.Plain.{image_plain, predictor_plain};
 
 use header::fields::chosen;
 use header::places;
-use settings::range::power;
+use integers::power_of;
 use settings::{Coder, Image, Predictor};
 
 // The number from 1 to m whose remainder by m is v.
@@ -66,7 +66,7 @@ pub fn predictor_of(v: [u32; 16]) -> Predictor
         column: v[places::LOCAL_SUM_TYPE] == 1,
         register: unwrapped(64, v[places::REGISTER_SIZE]),
         resolution: v[places::WEIGHT_RESOLUTION] + 4,
-        interval: power(v[places::EXPONENT_INTERVAL] + 4),
+        interval: power_of(v[places::EXPONENT_INTERVAL] + 4),
         vmin: v[places::INITIAL_EXPONENT] as i32 - 6,
         vmax: v[places::FINAL_EXPONENT] as i32 - 6,
         custom,

@@ -8,19 +8,19 @@ ghost use Rattle.header_values.specs.Storing.{Storing, Stored, AccumulatorsDone,
 
 use header::fields::number_at;
 use header::sizes::{FIXED_BITS, PREDICTOR_END, weights_size};
+use integers::power_of;
 use settings::Settings;
-use settings::range::power;
 use settings::tables::{PARAMETER_SLOT, TABLE_STRIDE, component_count};
 
-// The number that q bits are in two's complement.
+// The number that q bits are in two's complement. No type has q bits, so no conversion of std's says it, and shifts say it less plainly.
 fn signed_of(q: u32, v: u32) -> i32
     requires { (1 ≤ q) × (q ≤ 22) × (v < 2 ^ q) }
     ensures { result ≡ signed_of q v }
 {
-    if v < power(q - 1) {
+    if v < power_of(q - 1) {
         return v as i32;
     }
-    v as i32 - power(q) as i32
+    v as i32 - power_of(q) as i32
 }
 
 // The k' of band z.
@@ -69,10 +69,9 @@ fn store_band(file: &[u8], s: Settings, tables: &mut [i32], at: usize, first: us
     ensures { BandStored (unpack file.now) z tables.old tables.new }
 {
     let base = TABLE_STRIDE * z;
-    let mut i = 0;
-    while i < TABLE_STRIDE {
-        tables[base + i] = slot_at(file, s, at, first, z, i);
-        i += 1;
+    let slots = &mut tables[base..base + TABLE_STRIDE];
+    for (i, slot) in slots.iter_mut().enumerate() {
+        *slot = slot_at(file, s, at, first, z, i);
     }
 }
 
@@ -82,12 +81,9 @@ pub fn store_tables(file: &[u8], s: Settings, tables: &mut [i32])
     ensures { Stored (unpack file.now) s tables.old tables.new }
 {
     let at = FIXED_BITS + weights_size(s.image, s.predictor);
-    let bands = s.image.nz as usize;
     let mut first = 0;
-    let mut z = 0;
-    while z < bands {
+    for z in 0..s.image.nz as usize {
         store_band(file, s, tables, at, first, z);
         first += component_count(s.predictor, z);
-        z += 1;
     }
 }

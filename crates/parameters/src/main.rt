@@ -18,44 +18,28 @@ const MOST: u64 = 0xFFFF_FFFF;
 
 // The k of each depth for one sum; sums that no accumulator makes are passed over.
 fn depths(start: u64, count: u32, sum: u64) -> u64 {
-    let share = 49 * (count as u64) / 128;
-    if sum < share {
+    let share = 49 * u64::from(count) / 128;
+    let Some(Ok(accumulator)) = sum.checked_sub(share).map(u32::try_from) else {
         return start;
-    }
-    let accumulator = sum - share;
-    if MOST < accumulator {
-        return start;
-    }
-    let s = Statistics {
-        count,
-        accumulator: accumulator as u32,
     };
-    let mut hash = start;
-    for depth in 2..36 {
-        hash = word(hash, code_parameter(s, depth));
-    }
-    hash
+    let s = Statistics { count, accumulator };
+    (2..36).fold(start, |hash, depth| word(hash, code_parameter(s, depth)))
 }
 
 // The sums beside a number, and the number itself.
 fn around(start: u64, count: u32, middle: u64) -> u64 {
-    if middle == 0 {
+    if middle == 0 || 2 * MOST < middle {
         return start;
     }
-    if 2 * MOST < middle {
-        return start;
-    }
-    let below = depths(start, count, middle - 1);
-    let at = depths(below, count, middle);
-    depths(at, count, middle + 1)
+    (middle - 1..=middle + 1).fold(start, |hash, sum| depths(hash, count, sum))
 }
 
 // Every sum of a counter.
 fn sums(count: u32) -> u64 {
     let mut hash = 0;
     for k in 0u32..33 {
-        hash = around(hash, count, 1u64 << k);
-        hash = around(hash, count, (count as u64) << k);
+        hash = around(hash, count, 1 << k);
+        hash = around(hash, count, u64::from(count) << k);
     }
     hash
 }
@@ -64,10 +48,10 @@ fn sums(count: u32) -> u64 {
 fn tell(output: &mut impl Write, count: u32) -> io::Result<()> {
     let hash = sums(count);
     let told = Told {
-        answer: count as u64,
+        answer: u64::from(count),
         hash,
     };
-    line(output, b"parameter", told)
+    line(output, "parameter", told)
 }
 
 fn main(rt: HostRuntime) -> io::Result<()> {

@@ -1,14 +1,8 @@
 -- The gain by the sign of its exponent, the end of the weights' range, and the weights stepped slot by slot.
-use mathlib.Core.Path.{◌≡◌, refl, sym, ◌∙◌, ap, ap₂}
-use mathlib.Core.Bool.{Bool, true, false}
-use mathlib.Core.List.{List, [], ◌∷◌}
-use Prim.Native.Nat.{ℕ, zero, suc, ◌+◌, ◌^◌, ◌<◌, ◌≤◌}
-use native.Mathlib.Omega.{arith}
-use lib.Pow.{pow_pos}
-use lib.ListN.{length, get_or, set}
-use lib.Seq.{get_or-set_other, ext_get_or}
-use lib.IntN.{ℤ, pos, negsuc, nat_abs, ◌+ℤ◌, ◌-ℤ◌, ◌*ℤ◌}
-use lib.Signed.{le_z}
+use Rattle.std.proofs.Common.{◌≡◌, refl, sym, ◌∙◌, ap, Bool, true, false, List, [], ◌∷◌, ℕ, zero, suc, ◌+◌, ◌^◌, ◌<◌, ℤ, pos, negsuc, nat_abs, ◌+ℤ◌, ◌-ℤ◌, ◌*ℤ◌, length, get_or, arith, pow_pos}
+use Rattle.std.proofs.Math.Path.{ap₂}
+use Rattle.std.proofs.lemmas.List.{ext_get_or}
+use Rattle.std.specs.Int.Signed.{le_z}
 use Rattle.integers.specs.Integer.{floor_div, clip}
 use Rattle.integers.proofs.Laws.{zs, sub, neg, le_z_true, le_z_false}
 use Rattle.predictor.specs.Weights.{lowest_weight, highest_weight}
@@ -35,11 +29,6 @@ ends o p x e =
     let low : pos 0 -ℤ p ≡ lowest_weight o = ap (λ (q : ℤ). pos 0 -ℤ q) e ∙ omega (zs, (sub (pos 0) d).value, (neg d).value) in
     let high : p -ℤ pos 1 ≡ highest_weight o = ap (λ (q : ℤ). q -ℤ pos 1) e ∙ omega (zs, (sub d (pos 1)).value) in
     ap₂ (λ (l h : ℤ). clip x l h) low high
-
--- a store at i leaves the numbers behind it
-pub left_more : (w w₀ : List ℤ) (i : ℕ) (r : ℤ) → ((k : ℕ) → i ≤ k → get_or w k (pos 0) ≡ get_or w₀ k (pos 0))
-    → (k : ℕ) → i + 1 ≤ k → get_or (set w i r) k (pos 0) ≡ get_or w₀ k (pos 0)
-left_more w w₀ i r l k p = get_or-set_other w i k r (pos 0) (λ q. omega arith) ∙ l k (omega arith)
 
 module _ (o : ℕ) (rho : ℤ) (up : Bool) where
   stepped_at : (us ws : List ℤ) → length us ≡ length ws → (k : ℕ) → k < length ws

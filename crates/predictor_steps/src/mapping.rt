@@ -18,10 +18,11 @@ fn theta(low: i64, high: i64, prediction: i64) -> u64
 {
     let below = integers::magnitude(prediction - low);
     let above = integers::magnitude(high - prediction);
-    if below < above { below } else { above }
+    below.min(above)
 }
 
 // The mapped value of a residual.
+#[tactic(auto, unfolding(predictor::specs::Mapping::map_residual))]
 fn map_by(even: bool, residual: i64, distance: u64) -> u64
     requires { (nat_abs residual ≤ 2 ^ 40) × (distance ≤ 2 ^ 40) }
     ensures { result ≡ map_residual even residual distance }
@@ -39,6 +40,7 @@ fn map_by(even: bool, residual: i64, distance: u64) -> u64
 }
 
 // The residual of a mapped value; below says that the prediction has its room above it.
+#[tactic(auto, unfolding(predictor::specs::Mapping::unmap_residual))]
 fn unmap_by(even: bool, delta: u64, distance: u64, below: bool) -> i64
     requires { (delta ≤ 2 ^ 40) × (distance ≤ 2 ^ 40) }
     ensures { result ≡ unmap_residual even delta distance below }

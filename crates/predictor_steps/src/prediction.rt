@@ -14,10 +14,8 @@ fn inner(ws: &[i32], us: &[i32]) -> i64
     ensures { result ≡ inner ws.now us.now }
 {
     let mut sum: i64 = 0;
-    let mut i = 0;
-    while i < ws.len() {
-        sum += (ws[i] as i64) * (us[i] as i64);
-        i += 1;
+    for (i, w) in ws.iter().enumerate() {
+        sum += (*w as i64) * (us[i] as i64);
     }
     sum
 }

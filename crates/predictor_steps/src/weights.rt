@@ -38,10 +38,8 @@ pub fn step_weights(ws: &mut [i32], us: &[i32], rho: i32, up: bool, resolution: 
     requires { Stepping ws.old us.now rho resolution }
     ensures { ws.new ≡ stepped_weights resolution (λ i. rho) up us.now ws.old }
 {
-    let mut i = 0;
-    while i < ws.len() {
-        ws[i] = weight_step(ws[i], us[i], rho, up, resolution);
-        i += 1;
+    for (i, w) in ws.iter_mut().enumerate() {
+        *w = weight_step(*w, us[i], rho, up, resolution);
     }
 }
 
@@ -77,11 +75,9 @@ fn put_eighths(ws: &mut [i32], first: u32)
     ensures { ws.new ≡ eighths (length ws.old) (pos first) }
 {
     let mut weight = first;
-    let mut i = 0;
-    while i < ws.len() {
-        ws[i] = weight as i32;
-        weight = weight / 8;
-        i += 1;
+    for w in ws {
+        *w = weight as i32;
+        weight /= 8;
     }
 }
 
@@ -90,8 +86,7 @@ fn half_less(bits: u32) -> u32
     requires { bits ≤ 22 }
     ensures { result ≡ 2 ^ bits / 2 - 1 }
 {
-    let half = integers::power_of(bits) / 2;
-    if half == 0 { 0 } else { half - 1 }
+    (integers::power_of(bits) / 2).saturating_sub(1)
 }
 
 // The weight of a table value.
@@ -110,10 +105,8 @@ fn custom_weights(tables: &[i32], ws: &mut [i32], from: usize, resolution: u32, 
     requires { Customs tables.now (length ws.old) from resolution precision }
     ensures { ws.new ≡ join (λ i. one (custom_weight resolution precision (get_or tables.now (from + i) (pos 0)))) 0 (length ws.old) }
 {
-    let mut i = 0;
-    while i < ws.len() {
-        ws[i] = custom_weight(tables[from + i], resolution, precision);
-        i += 1;
+    for (i, w) in ws.iter_mut().enumerate() {
+        *w = custom_weight(tables[from + i], resolution, precision);
     }
 }
 

@@ -1,12 +1,7 @@
 -- The components of a value, joined from the directional and the central differences in their slots.
-use mathlib.Core.Path.{◌≡◌, sym, ◌∙◌, ap, ap₂}
-use mathlib.Core.Bool.{Bool, true, false, cond}
-use mathlib.Core.List.{List, ◌++◌, append_assoc}
-use Prim.Native.Nat.{ℕ, ◌+◌, ◌-◌, ◌*◌, ◌^◌, ◌≤◌, min}
-use native.Mathlib.Omega.{arith}
-use lib.ListN.{length, take, drop, length-take, length-drop, length-append}
-use lib.Seq.{take_at, drop_at, length-take-le}
-use lib.IntN.{ℤ}
+use Rattle.std.proofs.Common.{◌≡◌, sym, ◌∙◌, ap, Bool, true, false, cond, List, ◌++◌, append_assoc, ℕ, ◌+◌, ◌-◌, ◌*◌, ◌^◌, ◌≤◌, min, ℤ, length, take, drop, length-take, length-drop, length-append, arith}
+use Rattle.std.proofs.Math.Path.{ap₂}
+use Rattle.std.proofs.lemmas.List.{length-take-le, take_at, drop_at}
 use borrow.Rule.Slice.PartMut.{put_mid, same_len_mid}
 use Rattle.settings.specs.declared.Settings.{Settings}
 use Rattle.settings.specs.declared.Predictor.{Predictor}
@@ -90,6 +85,12 @@ module _ {S : Settings} {samples us : List ℤ} {z t x : ℕ} (d : Differing S s
     pub n_most : n ≤ 15
     n_most = omega (arith, (settings d.given).predictor.bands_most)
 
+    pub some_in : n ≤ length us
+    some_in = omega (arith, n_most, d.long)
+
+    pub some_long : length (take n us) ≡ n
+    some_long = length-take-le n us some_in
+
     pub below : (m : ℕ) → m ≡ n → {p : Position} → p ≡ position_at S.image.nx t → Below samples m (grid S) z t p
     below m e at = record {
       later = d.later;
@@ -111,16 +112,14 @@ module _ {S : Settings} {samples us : List ℤ} {z t x : ℕ} (d : Differing S s
           → Differences S samples z t sum (cs ++ drop n us)
       unfolding image_of
       reduced_are cs e g =
-          let n-in : n ≤ length us = omega (arith, n_most, d.long) in
-          let l : length (take n us) ≡ n = length-take-le n us n-in in
-          let c : cs ≡ centrals_of n = g ∙ ap (λ (m : ℕ). centrals_of m) l in
+          let c : cs ≡ centrals_of n = g ∙ ap (λ (m : ℕ). centrals_of m) some_long in
           let cl : length cs ≡ n = ap length c ∙ centrals_at_length S.image.nx S.predictor.column (bands_of (area S) samples) n z t in
           record {
             sum_is = f;
             components_are =
                 ap (λ (m : ℕ). take m (cs ++ drop n us)) (count_reduced S.predictor z n h e) ∙ take_at cs (drop n us) n cl ∙ c
                 ∙ sym (components_reduced S (bands_of (area S) samples) z t n h e);
-            long = length-append cs (drop n us) ∙ rw length-drop (omega (arith, d.long));
+            long = length-append cs (drop n us) ∙ rw length-drop (omega (arith, some_in, d.long));
           }
 
       pub full_are : (ds cs : List ℤ) → S.predictor.reduced ≡ false → length ds ≡ 3

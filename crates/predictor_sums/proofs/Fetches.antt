@@ -1,16 +1,8 @@
 -- What is fetched serves as the neighbours of a place: neither sum nor differences look at a neighbour that the position lacks.
-use borrow.Author.Tests.{ltb-false, ltb-true, eqb-true, eqb-false, ne_eqb}
-use mathlib.Core.Path.{◌≡◌, refl, sym, ◌∙◌, ap}
-use mathlib.Core.Bool.{Bool, true, false, cond, ◌||◌}
-use mathlib.Core.List.{List, [], ◌∷◌}
-use mathlib.Core.Logic.{◌⊎◌, inl, inr}
-use Prim.Native.Nat.{ℕ, ◌+◌, ◌-◌, ◌%◌, ◌^◌, ◌<◌, ◌≤◌, zero-le}
-use native.Mathlib.Nat.{mod-eq_of_lt, eq-or-lt_of_le, mul-mod_left, one-mul}
-use native.Mathlib.Omega.{arith}
-use lib.Dec.{ltb, eqb}
-use lib.IntN.{ℤ, pos, nat_abs, ◌+ℤ◌}
-use lib.ListN.{get_or}
-use Rattle.predictor.specs.LocalSum.{Neighbours, Position, two, four, neighbours_at, position_at, local_sum, sum_at}
+use Rattle.std.proofs.Common.{◌≡◌, refl, sym, ◌∙◌, ap, Bool, true, false, cond, ◌||◌, List, ◌⊎◌, inl, inr, ℕ, ◌+◌, ◌-◌, ◌%◌, ◌^◌, ◌<◌, ◌≤◌, zero-le, eq-or-lt_of_le, arith, ltb, eqb, ℤ, pos, nat_abs, ◌+ℤ◌, get_or}
+use Rattle.std.proofs.lemmas.Bool.{ltb-false, ltb-true, eqb-true, eqb-false, ne_eqb}
+use Rattle.std.proofs.Math.Nat.{mod-eq_of_lt, mul-mod_left, one-mul}
+use Rattle.predictor.specs.LocalSum.{Neighbours, Position, neighbours_at, position_at, local_sum, sum_at}
 use Rattle.predictor.specs.Differences.{difference, directional, central_at}
 use Rattle.predictor.specs.Each.{Each}
 use Rattle.predictor.specs.SizeLaws.{Around}
@@ -19,53 +11,10 @@ use Rattle.predictor.specs.Asks.{Sample, band_from}
 use Rattle.predictor_sums.specs.Fetch.{Fetching, fetched}
 use Rattle.predictor_sums.specs.Asks.{Window, Narrow, centre, inside}
 
--- ---- case by case, as the branches of the code tell the cases apart
-
-module _ (beyond : Bool) (v : ℤ) where
-  pub on_edge : beyond ≡ true → pos 0 ≡ cond beyond (pos 0) v
-  on_edge e = rw e
-
-  pub off_edge : beyond ≡ false → v ≡ cond beyond (pos 0) v
-  off_edge e = rw e
-
-module _ (column : Bool) (p : Position) (n : Neighbours) where
-  pub sum_top : p.first_row ≡ true → four n.west ≡ local_sum column p n
-  unfolding local_sum
-  sum_top h = rw h
-
-  module _ (h : p.first_row ≡ false) where
-    pub sum_column : column ≡ true → four n.north ≡ local_sum column p n
-    unfolding local_sum
-    sum_column k = rw (h, k)
-
-    module _ (k : column ≡ false) where
-      pub sum_last : p.last_column ≡ true → n.west +ℤ n.north_west +ℤ two n.north ≡ local_sum column p n
-      unfolding local_sum
-      sum_last l = rw (h, k, l)
-
-      module _ (l : p.last_column ≡ false) where
-        pub sum_first : p.first_column ≡ true → two (n.north +ℤ n.north_east) ≡ local_sum column p n
-        unfolding local_sum
-        sum_first m = rw (h, k, l, m)
-
-        pub sum_inside : p.first_column ≡ false → n.west +ℤ n.north_west +ℤ n.north +ℤ n.north_east ≡ local_sum column p n
-        unfolding local_sum
-        sum_inside m = rw (h, k, l, m)
-
-module _ (p : Position) (n : Neighbours) (sum : ℤ) where
-  pub directional_top : p.first_row ≡ true → pos 0 ∷ pos 0 ∷ pos 0 ∷ [] ≡ directional p n sum
-  unfolding directional
-  directional_top h = rw h
-
-  module _ (h : p.first_row ≡ false) (north : ℤ) (e : north ≡ difference n.north sum) where
-    pub directional_first : p.first_column ≡ true → north ∷ north ∷ north ∷ [] ≡ directional p n sum
-    unfolding directional
-    directional_first k = rw (h, k, e)
-
-    pub directional_inside : p.first_column ≡ false → (west corner : ℤ) → west ≡ difference n.west sum → corner ≡ difference n.north_west sum
-        → north ∷ west ∷ corner ∷ [] ≡ directional p n sum
-    unfolding directional
-    directional_inside k west corner f g = rw (h, k, e, f, g)
+-- off the edges all four count
+pub sum_inside : (n : Neighbours) → n.west +ℤ n.north_west +ℤ n.north +ℤ n.north_east ≡ local_sum false inside n
+unfolding local_sum
+sum_inside n = refl
 
 -- ---- neighbours that are alike where a position has them
 
@@ -110,13 +59,6 @@ past {n} {t} h p = go (eq-or-lt_of_le h)
 either : (a b : Bool) → (a || b) ≡ false → (a ≡ false) × (b ≡ false)
 either true b e = absurd (let z : ◌≡◌ {A = ℕ} 0 1 = cc in omega arith)
 either false b e = (refl, e)
-
-pub off_edges : (top left right column : Bool) → (((top || left) || right) || column) ≡ false → (place top left right ≡ inside) × (column ≡ false)
-off_edges top left right column e =
-    let (a, d) = either ((top || left) || right) column e in
-    let (b, c) = either (top || left) right a in
-    let (t, l) = either top left b in
-    ((λ i. record { first_row = t i; first_column = l i; last_column = c i }), d)
 
 module _ {samples : List ℤ} {base t nx : ℕ} (w : Window samples base t nx) where
   whole : Alike (position_at nx t) (fetched samples (base + (t - nx)) samples (base + t) (position_at nx t)) (neighbours_at nx (band_from samples base) t)

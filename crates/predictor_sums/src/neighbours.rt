@@ -21,6 +21,7 @@ pub struct Position {
 }
 
 // Where place t, in column x of rows of nx samples, stands.
+#[tactic(auto, unfolding(predictor::specs::LocalSum::position_at))]
 pub fn position_at(t: usize, x: usize, nx: usize) -> Position
     requires { (x ≡ t % nx) × (0 < nx) }
     ensures { position_of result ≡ position_at nx t }

@@ -55,6 +55,7 @@ fn inside_sum(west: i32, corner: i32, north: i32, east: i32) -> i64
 }
 
 // The local sum of the neighbours of a place.
+#[tactic(auto, unfolding(predictor::specs::LocalSum::local_sum))]
 pub fn local_sum(column: bool, p: Position, n: Neighbours) -> i64
     ensures { result ≡ local_sum column (position_of p) (neighbours_of n) }
 {
@@ -82,6 +83,7 @@ fn difference(sample: i32, sum: i64) -> i32
 }
 
 // The directional differences of a place.
+#[tactic(auto, unfolding(predictor::specs::Differences::directional))]
 pub fn directional(p: Position, n: Neighbours, sum: i64) -> Directions
     requires { Around 65535 (neighbours_of n) × (nat_abs sum ≤ 2 ^ 18) }
     ensures { directions_of result ≡ directional (position_of p) (neighbours_of n) sum }
@@ -143,42 +145,16 @@ pub fn central(
     inside_central(above, north, here, at)
 }
 
-// A number less another, or 0.
-fn less(one: usize, other: usize) -> usize
-    ensures { result ≡ one - other }
-{
-    if one < other { 0 } else { one - other }
-}
-
 // The central differences of the bands before band z, as many as us has, nearest first.
 fn centrals(image: &[i32], us: &mut [i32], grid: Grid, z: usize, t: usize, position: Position)
     requires { Below image.now (length us.old) grid z t (position_of position) }
     ensures { us.new ≡ centrals_at grid.nx grid.column (bands_of grid.area image.now) (length us.old) z t }
 {
-    let up = less(t, grid.nx);
-    let mut i = 0;
-    while i < us.len() {
+    let up = t.saturating_sub(grid.nx);
+    for (i, u) in us.iter_mut().enumerate() {
         let base = (z - 1 - i) * grid.area;
-        us[i] = central(image, base + up, image, base + t, position, grid.column);
-        i += 1;
+        *u = central(image, base + up, image, base + t, position, grid.column);
     }
-}
-
-// Three numbers into three slots.
-fn put_three(us: &mut [i32], first: i32, second: i32, third: i32)
-    requires { length us.old ≡ 3 }
-    ensures { us.new ≡ first ∷ second ∷ third ∷ [] }
-{
-    us[0] = first;
-    us[1] = second;
-    us[2] = third;
-}
-
-// The smaller of two numbers.
-pub fn least(one: usize, other: usize) -> usize
-    ensures { result ≡ min one other }
-{
-    if one < other { one } else { other }
 }
 
 // The local sum at value t of band z, and the components into the first slots of us.
@@ -192,16 +168,22 @@ pub fn differences(s: Settings, image: &[i32], us: &mut [i32], z: usize, t: usiz
     let grid = Grid { nx, area, column };
     let position = position_at(t, x, nx);
     let base = z * area;
-    let around = fetch(image, base + less(t, nx), image, base + t, position);
+    let around = fetch(
+        image,
+        base + t.saturating_sub(nx),
+        image,
+        base + t,
+        position,
+    );
     let sum = local_sum(column, position, around);
-    let behind = least(z, s.predictor.bands as usize);
+    let behind = z.min(s.predictor.bands as usize);
     let reduced = s.predictor.reduced;
     if reduced {
         centrals(image, &mut us[..behind], grid, z, t, position);
         return sum;
     }
     let d = directional(position, around, sum);
-    put_three(&mut us[..3], d.north, d.west, d.north_west);
+    us[..3].copy_from_slice(&[d.north, d.west, d.north_west]);
     let end = 3 + behind;
     centrals(image, &mut us[3..end], grid, z, t, position);
     sum

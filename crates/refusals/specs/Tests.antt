@@ -1,8 +1,6 @@
 -- Tests in order, the first that fails decides (document 01, "Writer's order", "Reader's").
-use Rattle.std.specs.Prelude.{Bool, cond, List, [], ◌∷◌}
+use Rattle.std.specs.Prelude.{Bool, cond, List, [], ◌∷◌, Result, Ok, Err, ⊤}
 use Rattle.refusals.specs.declared.Refusal.{Refusal}
-use Rattle.refusals.specs.declared.Checked.{Checked}
-use Rattle.refusals.specs.declared.Checked.TheVariants.{Passed, Refused}
 
 -- a condition, and the refusal it stands for
 pub record Test : Type 0 where
@@ -15,6 +13,6 @@ b ⇒ r = record { fails = b; refusal = r }
 
 infix 90 ◌⇒◌
 -- the first test that fails decides
-unfoldable pub first_hit : List Test → Checked
-first_hit [] = Passed
-first_hit (t ∷ ts) = cond t.fails (Refused t.refusal) (first_hit ts)
+unfoldable pub first_hit : List Test → Result ⊤ Refusal
+first_hit [] = (Ok tt)
+first_hit (t ∷ ts) = cond t.fails (Err t.refusal) (first_hit ts)

@@ -26,14 +26,7 @@ pub enum Refusal {
     NoSerialLeft,
 }
 
-// What a list of tests answers.
-#[derive(Clone, Copy)]
-pub enum Checked {
-    Passed,
-    Refused(Refusal),
-}
-
-// A refusal as it is told to a caller.
+// A refusal as it is told to a caller: C takes numbers, and this pair is all that is left of the enum there.
 #[derive(Clone, Copy)]
 pub struct Numbered {
     pub number: u64,

@@ -3,7 +3,7 @@
 ghost use Rattle.cube_c.specs.Boundary.{CPacks, CLengths, COpens, CLooks};
 
 use cube_c::boundary::{remulingka_length, remulingka_look, remulingka_open, remulingka_pack};
-use replay_areas::hash::{bytes, slots};
+use replay_areas::hash::elements;
 use replay_areas::lines::Told;
 
 pub fn pack(
@@ -16,7 +16,7 @@ pub fn pack(
     ensures { CPacks settings.now tables.now samples.now scratch.old out.old result.answer out.new }
 {
     let answer = remulingka_pack(settings, tables, samples, scratch, out);
-    let hash = bytes(0, out);
+    let hash = elements(0, out);
     Told { answer, hash }
 }
 
@@ -38,7 +38,7 @@ pub fn open(
     ensures { COpens file.now scratch.old tables.old image.old settings.old result.answer tables.new image.new settings.new }
 {
     let answer = remulingka_open(file, scratch, tables, image, settings);
-    let hash = slots(slots(slots(0, tables), image), settings);
+    let hash = elements(elements(elements(0, tables), image), settings);
     Told { answer, hash }
 }
 
@@ -46,6 +46,6 @@ pub fn look(file: &[u8], settings: &mut [i32]) -> Told
     ensures { CLooks file.now settings.old result.answer settings.new }
 {
     let answer = remulingka_look(file, settings);
-    let hash = slots(0, settings);
+    let hash = elements(0, settings);
     Told { answer, hash }
 }

@@ -1,5 +1,6 @@
 // The areas of a recorded call: given by the input, prepared, hashed, and the line about them.
-// Nothing here is proved to be right, only to be safe: a replay that is wrong writes lines that differ.
+// Proved are the pieces, that a record is what its words say, that areas are prepared and how they are hashed; of a replay nothing is
+// proved to be right, only to be safe: one that is wrong writes lines that differ.
 #![tactic(auto)]
 
 pub mod areas;
@@ -7,4 +8,3 @@ pub mod hash;
 pub mod lines;
 pub mod records;
 pub mod shared;
-pub mod words;

@@ -1,4 +1,5 @@
 // The line of a call: its name, the number and the value of the word that it answered, and the hash of what it was lent.
+use std::fmt::{self, Display};
 use std::io::{self, Write};
 
 // The number stands in the word's highest byte.
@@ -11,12 +12,17 @@ pub struct Told {
     pub hash: u64,
 }
 
-pub fn line(output: &mut impl Write, name: &[u8], told: Told) -> io::Result<()> {
-    let number = told.answer / NUMBER_UNIT;
-    let value = told.answer % NUMBER_UNIT;
-    let hash = told.hash;
-    output.write_all(name)?;
-    writeln!(output, " {number} {value} {hash:x}")
+impl Display for Told {
+    fn fmt<W: fmt::Write>(&self, f: &mut fmt::Formatter<W>) -> fmt::Result {
+        let number = self.answer / NUMBER_UNIT;
+        let value = self.answer % NUMBER_UNIT;
+        let hash = self.hash;
+        write!(f, "{number} {value} {hash:x}")
+    }
+}
+
+pub fn line(output: &mut impl Write, name: &str, told: Told) -> io::Result<()> {
+    writeln!(output, "{name} {told}")
 }
 
 // The line of a call that does not fit this program's arrays, which is then not made. The independent program writes no such line.

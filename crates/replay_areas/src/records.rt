@@ -1,35 +1,126 @@
-// The input's pieces: records of four words, and the words or bytes that an area is given. Where the input ends, words read as 0.
-use super::words::{signed, word_at};
-use std::io::{self, Read};
+// The input's pieces: records of four words, and the words or bytes that an area is given. Words are of 32 bits, most significant
+// byte first. Where the input ends, words read as 0.
+//
+//      1 settings  slots lent, slots given, 0; then the given slots, a word each
+//      2 tables    the same
+//      3 image     the same: the samples to pack, and the area for an image
+//      4 scratch   the same
+//      5 bytes     0, bytes given, 0; then the bytes: a file, and zeros by which a change can lengthen it
+//     11 pack      0, 0, bytes of the output
+//     12 length    0, 0, 0
+//     13 open      place, byte, length: the file with that byte at that place, then of that length
+//     14 look      the same
+//      0           ends the run, as the end of the input does
+ghost use Rattle.replay_areas.specs.Records.{Reads};
 
-const RECORD_BYTES: usize = 16;
+use std::io::{self, ErrorKind, Read};
 
-// A kind, and three numbers that each kind reads in its own way.
+// An area of slots.
 #[derive(Clone, Copy)]
-pub struct Record {
-    pub kind: u32,
-    pub first: usize,
-    pub second: usize,
-    pub third: usize,
+pub enum Area {
+    Settings,
+    Tables,
+    Image,
+    Scratch,
 }
 
-// The next record; behind the end of the input it is all zero, which ends a run.
-pub fn read_record(input: &mut impl Read) -> io::Result<Record> {
-    let mut bytes = [0u8; RECORD_BYTES];
-    read_full(input, &mut bytes)?;
-    Ok(Record {
-        kind: word_at(&bytes, 0),
-        first: word_at(&bytes, 4) as usize,
-        second: word_at(&bytes, 8) as usize,
-        third: word_at(&bytes, 12) as usize,
-    })
+// A call of the boundary.
+#[derive(Clone, Copy)]
+pub enum Call {
+    Pack,
+    Length,
+    Open,
+    Look,
 }
 
-// The next slot.
+impl Call {
+    // How its line begins.
+    pub fn name(self) -> &'static str {
+        match self {
+            Call::Pack => "pack",
+            Call::Length => "length",
+            Call::Open => "open",
+            Call::Look => "look",
+        }
+    }
+}
+
+// What a call is lent of the file: its first `length` bytes, where `byte` stands at `place`.
+#[derive(Clone, Copy)]
+pub struct Change {
+    pub place: usize,
+    pub byte: u8,
+    pub length: usize,
+}
+
+// What a record says.
+#[derive(Clone, Copy)]
+pub enum Record {
+    // Calls are lent the area's first `lent` slots, and its first `given` follow.
+    Lend {
+        area: Area,
+        lent: usize,
+        given: usize,
+    },
+    // The file's first `given` bytes follow.
+    File {
+        given: usize,
+    },
+    Make(Call, Change),
+    End,
+}
+
+// A kind that no record has.
+#[derive(Clone, Copy)]
+pub struct UnknownKind;
+
+impl TryFrom<[u32; 4]> for Record {
+    type Error = UnknownKind;
+
+    ghost try_from_gives = { Reads };
+
+    fn try_from(words: [u32; 4]) -> Result<Record, UnknownKind> {
+        let [kind, first, second, third] = words;
+        let slots = |area: Area| Record::Lend {
+            area,
+            lent: first as usize,
+            given: second as usize,
+        };
+        let change = Change {
+            place: first as usize,
+            byte: (second % 256) as u8,
+            length: third as usize,
+        };
+        match kind {
+            0 => Ok(Record::End),
+            1 => Ok(slots(Area::Settings)),
+            2 => Ok(slots(Area::Tables)),
+            3 => Ok(slots(Area::Image)),
+            4 => Ok(slots(Area::Scratch)),
+            5 => Ok(Record::File {
+                given: second as usize,
+            }),
+            11 => Ok(Record::Make(Call::Pack, change)),
+            12 => Ok(Record::Make(Call::Length, change)),
+            13 => Ok(Record::Make(Call::Open, change)),
+            14 => Ok(Record::Make(Call::Look, change)),
+            _ => Err(UnknownKind),
+        }
+    }
+}
+
+// The words of the next record; behind the end of the input they are all 0, which ends a run.
+pub fn read_record(input: &mut impl Read) -> io::Result<[u32; 4]> {
+    let mut words = [[0; 4]; 4];
+    read_full(input, words.as_flattened_mut())?;
+    Ok(words.map(u32::from_be_bytes))
+}
+
+// The next slot, whose two's complement a word is.
 fn read_slot(input: &mut impl Read) -> io::Result<i32> {
-    let mut bytes = [0u8; 4];
+    let mut bytes = [0; 4];
     read_full(input, &mut bytes)?;
-    Ok(signed(word_at(&bytes, 0)))
+    Ok(i32::from_be_bytes(bytes))
 }
 
 // Gives an area its first `count` slots. What goes beyond the area is left in the input, whose next record then is none.
@@ -40,18 +131,18 @@ pub fn read_slots(input: &mut impl Read, area: &mut [i32], count: usize) -> io::
     Ok(())
 }
 
-// Gives an area its first `count` bytes.
+// Gives an area its first `count` bytes. It is no `read_slots` for bytes: of more than the area has, none are read.
 pub fn read_bytes(input: &mut impl Read, area: &mut [u8], count: usize) -> io::Result<()> {
-    if count <= area.len() {
-        read_full(input, &mut area[..count])?;
+    match area.get_mut(..count) {
+        Some(room) => read_full(input, room),
+        None => Ok(()),
     }
-    Ok(())
 }
 
 // The next bytes, as many as there is room for. Where the input ends before, the rest of the room is left as it is.
 fn read_full(input: &mut impl Read, room: &mut [u8]) -> io::Result<()> {
-    for (place, byte) in room.iter_mut().zip(input.by_ref().bytes()) {
-        *place = byte?;
+    match input.read_exact(room) {
+        Err(error) if error.kind() == ErrorKind::UnexpectedEof => Ok(()),
+        result => result,
     }
-    Ok(())
 }

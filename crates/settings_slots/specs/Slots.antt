@@ -1,13 +1,13 @@
 -- Settings as 24 slots of signed 32-bit numbers, in the order user, Nx, Ny, Nz, signed, D, order, M, B, P, reduced, column, R, Ω, tinc,
 -- vmin, vmax, custom, Q, Umax, γ*, γ0, k' table, K.
-use Rattle.std.specs.Prelude.{Bool, cond, not, ◌&&◌, ◌||◌, List, [], ◌∷◌, ℕ, ℤ, pos, nat_abs, length, get_or, ltb}
+use Rattle.std.specs.Prelude.{Bool, cond, not, ◌&&◌, ◌||◌, List, [], ◌∷◌, ℕ, ℤ, pos, nat_abs, length, get_or, ltb, Result, ⊤}
 use Rattle.std.specs.Int.Signed.{le_z}
 use Rattle.refusals.specs.declared.Refusal.TheVariants.{IllegalSetting, WrongCount}
-use Rattle.refusals.specs.declared.Checked.{Checked}
 use Rattle.refusals.specs.Tests.{Test, ◌⇒◌, first_hit}
 use Rattle.settings.specs.declared.Image.{Image}
 use Rattle.settings.specs.declared.Predictor.{Predictor}
 use Rattle.settings.specs.declared.Coder.{Coder}
+use Rattle.refusals.specs.declared.Refusal.{Refusal}
 use Rattle.settings.specs.declared.Settings.{Settings}
 
 -- the slots of a settings list
@@ -56,7 +56,7 @@ abbrev pub too_short : List ℤ → Test
 too_short slots = ltb (length slots) slot_count ⇒ WrongCount
 
 -- and, of settings that are given, a slot that the record cannot hold
-unfoldable pub slots_checked : List ℤ → Checked
+unfoldable pub slots_checked : List ℤ → Result ⊤ Refusal
 slots_checked slots = first_hit (too_short slots ∷ not (holds slots) ⇒ IllegalSetting ∷ [])
 
 -- the image settings that the slots name

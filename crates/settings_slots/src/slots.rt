@@ -2,17 +2,19 @@
 // weights, K beside its table, is not looked at, whatever it holds.
 ghost use Rattle.std.specs.Prelude.{◌≡◌, true, cond, ◌&&◌, ◌++◌, ◌<◌, ◌≤◌, ◌^◌, pos, nat_abs, length, drop};
 ghost use Rattle.std.specs.Int.Signed.{le_z};
-ghost use Rattle.settings_slots.specs.Slots.{slot_count, slot, natural, is_set, image_holds, predictor_holds, coder_holds, holds, image_from, predictor_from, coder_from, settings_from, flag_slot, slots_of, slots_checked};
+ghost use Rattle.settings_slots.specs.Slots.{slot_count, slot, natural, is_set, image_holds, predictor_holds, coder_holds, holds, image_from, predictor_from, coder_from, settings_from, slots_of, slots_checked};
 ghost use Rattle.settings_slots.specs.Storing.{SmallImage, SmallPredictor, SmallCoder, Small, image_slots, predictor_slots, coder_slots};
 
-use integers::magnitude;
-use refusals::{Checked, Refusal};
+use refusals::Refusal;
 use settings::{Coder, Image, Predictor, Settings};
 
 // Slots of one settings list; more may follow them.
 pub const SLOTS: usize = 24;
 
 // ---- one slot
+
+// The slots stay a slice, with a bound in each clause: the definitions are of the whole list that is lent, and an array of its first 24
+// would have to be taken in each public function, with a law for each definition that what stands behind does not count.
 
 // 0 or more
 fn slot_natural(l: &[i32], i: usize) -> bool
@@ -27,7 +29,7 @@ fn slot_up_to(l: &[i32], i: usize, high: i32) -> bool
     requires { i < length l.now }
     ensures { result ≡ (le_z (pos 0) (slot l.now i) && le_z (slot l.now i) high) }
 {
-    (0 <= l[i]) & (l[i] <= high)
+    (0..=high).contains(&l[i])
 }
 
 // a flag that is set
@@ -43,7 +45,7 @@ fn slot_number(l: &[i32], i: usize) -> u32
     requires { i < length l.now }
     ensures { result ≡ nat_abs (slot l.now i) }
 {
-    magnitude(l[i] as i64) as u32
+    l[i].unsigned_abs()
 }
 
 // The number there where the slot is a setting, and else 0.
@@ -56,6 +58,7 @@ fn used_number(l: &[i32], i: usize, used: bool) -> u32
 
 // ---- tests: the record can hold the slots of a part
 
+#[tactic(auto, unfolding(crate::specs::Slots::image_holds))]
 fn image_holds(l: &[i32]) -> bool
     requires { slot_count ≤ length l.now }
     ensures { result ≡ image_holds l.now }
@@ -71,6 +74,7 @@ fn image_holds(l: &[i32]) -> bool
         & slot_natural(l, 8)
 }
 
+#[tactic(auto, unfolding(crate::specs::Slots::predictor_holds))]
 fn predictor_holds(l: &[i32]) -> bool
     requires { slot_count ≤ length l.now }
     ensures { result ≡ predictor_holds l.now }
@@ -85,6 +89,7 @@ fn predictor_holds(l: &[i32]) -> bool
         & (!slot_set(l, 17) | slot_natural(l, 18))
 }
 
+#[tactic(auto, unfolding(crate::specs::Slots::coder_holds))]
 fn coder_holds(l: &[i32]) -> bool
     requires { slot_count ≤ length l.now }
     ensures { result ≡ coder_holds l.now }
@@ -96,6 +101,7 @@ fn coder_holds(l: &[i32]) -> bool
         & (slot_set(l, 22) | slot_natural(l, 23))
 }
 
+#[tactic(auto, unfolding(crate::specs::Slots::holds))]
 fn holds(l: &[i32]) -> bool
     requires { slot_count ≤ length l.now }
     ensures { result ≡ holds l.now }
@@ -104,20 +110,21 @@ fn holds(l: &[i32]) -> bool
 }
 
 // The boundary's own tests, before all others: 24 slots, each of which the record can hold.
-pub fn slots_checked(l: &[i32]) -> Checked
+pub fn slots_checked(l: &[i32]) -> Result<(), Refusal>
     ensures { result ≡ slots_checked l.now }
 {
     if l.len() < SLOTS {
-        return Checked::Refused(Refusal::WrongCount);
+        return Err(Refusal::WrongCount);
     }
     if !holds(l) {
-        return Checked::Refused(Refusal::IllegalSetting);
+        return Err(Refusal::IllegalSetting);
     }
-    Checked::Passed
+    Ok(())
 }
 
 // ---- the record that the slots name
 
+#[tactic(auto, unfolding(crate::specs::Slots::image_from), using(crate::specs::SlotLaws::user_small))]
 fn image_from(l: &[i32]) -> Image
     requires slot_count_in_bounds { slot_count ≤ length l.now }
     requires l_value { holds l.now ≡ true }
@@ -131,12 +138,13 @@ fn image_from(l: &[i32]) -> Image
         nz: slot_number(l, 3),
         signed: slot_set(l, 4),
         depth: slot_number(l, 5),
-        sequential: sequential,
+        sequential,
         interleave: used_number(l, 7, !sequential),
         word: slot_number(l, 8),
     }
 }
 
+#[tactic(auto, unfolding(crate::specs::Slots::predictor_from))]
 fn predictor_from(l: &[i32]) -> Predictor
     requires { slot_count ≤ length l.now }
     ensures { result ≡ predictor_from l.now }
@@ -151,12 +159,13 @@ fn predictor_from(l: &[i32]) -> Predictor
         interval: slot_number(l, 14),
         vmin: l[15],
         vmax: l[16],
-        custom: custom,
+        custom,
         precision: used_number(l, 18, custom),
         weights_in_file: custom,
     }
 }
 
+#[tactic(auto, unfolding(crate::specs::Slots::coder_from))]
 fn coder_from(l: &[i32]) -> Coder
     requires { slot_count ≤ length l.now }
     ensures { result ≡ coder_from l.now }
@@ -166,12 +175,13 @@ fn coder_from(l: &[i32]) -> Coder
         unary: slot_number(l, 19),
         rescaling: slot_number(l, 20),
         initial: slot_number(l, 21),
-        tabled: tabled,
+        tabled,
         constant: used_number(l, 23, !tabled),
         k_in_file: tabled,
     }
 }
 
+#[tactic(auto, unfolding(crate::specs::Slots::settings_from))]
 pub fn settings_from(l: &[i32]) -> Settings
     requires slot_count_in_bounds { slot_count ≤ length l.now }
     requires l_value { holds l.now ≡ true }
@@ -193,58 +203,56 @@ fn number_slot(n: u32) -> i32
     n as i32
 }
 
-fn flag_slot(b: bool) -> i32
-    ensures { result ≡ flag_slot b }
+// The slots of each part.
+#[tactic(auto, unfolding(crate::specs::Storing::image_slots))]
+fn image_slots(s: Image) -> [i32; 9]
+    requires { SmallImage s }
+    ensures { result ≡ image_slots s }
 {
-    if b { 1 } else { 0 }
+    [
+        i32::from(s.user),
+        number_slot(s.nx),
+        number_slot(s.ny),
+        number_slot(s.nz),
+        i32::from(s.signed),
+        number_slot(s.depth),
+        i32::from(s.sequential),
+        number_slot(s.interleave),
+        number_slot(s.word),
+    ]
 }
 
-// The slots of each part, from the first of those lent on.
-fn put_image(s: Image, l: &mut [i32])
-    requires in_bounds { 9 ≤ length l.old }
-    requires small_image { SmallImage s }
-    ensures { l.new ≡ image_slots s ++ drop 9 l.old }
+#[tactic(auto, unfolding(crate::specs::Storing::predictor_slots))]
+fn predictor_slots(s: Predictor) -> [i32; 10]
+    requires { SmallPredictor s }
+    ensures { result ≡ predictor_slots s }
 {
-    l[0] = number_slot(s.user as u32);
-    l[1] = number_slot(s.nx);
-    l[2] = number_slot(s.ny);
-    l[3] = number_slot(s.nz);
-    l[4] = flag_slot(s.signed);
-    l[5] = number_slot(s.depth);
-    l[6] = flag_slot(s.sequential);
-    l[7] = number_slot(s.interleave);
-    l[8] = number_slot(s.word);
+    [
+        number_slot(s.bands),
+        i32::from(s.reduced),
+        i32::from(s.column),
+        number_slot(s.register),
+        number_slot(s.resolution),
+        number_slot(s.interval),
+        s.vmin,
+        s.vmax,
+        i32::from(s.custom),
+        number_slot(s.precision),
+    ]
 }
 
-fn put_predictor(s: Predictor, l: &mut [i32])
-    requires in_bounds { 10 ≤ length l.old }
-    requires small_predictor { SmallPredictor s }
-    ensures { l.new ≡ predictor_slots s ++ drop 10 l.old }
+#[tactic(auto, unfolding(crate::specs::Storing::coder_slots))]
+fn coder_slots(s: Coder) -> [i32; 5]
+    requires { SmallCoder s }
+    ensures { result ≡ coder_slots s }
 {
-    let vmin = s.vmin;
-    let vmax = s.vmax;
-    l[0] = number_slot(s.bands);
-    l[1] = flag_slot(s.reduced);
-    l[2] = flag_slot(s.column);
-    l[3] = number_slot(s.register);
-    l[4] = number_slot(s.resolution);
-    l[5] = number_slot(s.interval);
-    l[6] = vmin;
-    l[7] = vmax;
-    l[8] = flag_slot(s.custom);
-    l[9] = number_slot(s.precision);
-}
-
-fn put_coder(s: Coder, l: &mut [i32])
-    requires in_bounds { 5 ≤ length l.old }
-    requires small_coder { SmallCoder s }
-    ensures { l.new ≡ coder_slots s ++ drop 5 l.old }
-{
-    l[0] = number_slot(s.unary);
-    l[1] = number_slot(s.rescaling);
-    l[2] = number_slot(s.initial);
-    l[3] = flag_slot(s.tabled);
-    l[4] = number_slot(s.constant);
+    [
+        number_slot(s.unary),
+        number_slot(s.rescaling),
+        number_slot(s.initial),
+        i32::from(s.tabled),
+        number_slot(s.constant),
+    ]
 }
 
 // All 24; what stands behind them is left.
@@ -253,7 +261,7 @@ pub fn put_settings(s: Settings, l: &mut [i32])
     requires small { Small s }
     ensures { l.new ≡ slots_of s ++ drop slot_count l.old }
 {
-    put_image(s.image, l);
-    put_predictor(s.predictor, &mut l[9..]);
-    put_coder(s.coder, &mut l[19..]);
+    l[..9].copy_from_slice(&image_slots(s.image));
+    l[9..19].copy_from_slice(&predictor_slots(s.predictor));
+    l[19..SLOTS].copy_from_slice(&coder_slots(s.coder));
 }

@@ -1,7 +1,6 @@
--- The loop reads the bytes as one number, whose bits are theirs, and the shift moves them to the top. Assumes nothing.
-use mathlib.Core.Path.{refl}
-use Prim.Native.Nat.{◌+◌}
-use native.Mathlib.Omega.{arith}
+-- The bytes so far are a number of that many bytes, and behind the last one the shift moves them to the top.
+use Rattle.std.proofs.Common.{◌≡◌, ◌+◌, ◌-◌, ◌∙◌, length, drop, get_or, refl, arith}
+use Rattle.std.proofs.lemmas.List.{length-drop, take_all, get_or-drop}
 use Rattle.bitstream.specs.Stream.{number, unpack}
 use Rattle.bitstream.proofs.Windows.{none_sees, number_more, number_small, tail_sees}
 use Rattle.bitstream.proofs.read.load_tail.Goals as goal
@@ -9,32 +8,35 @@ use Rattle.bitstream.proofs.read.load_tail.Goals as goal
 pub returns-then-s-p : goal.returns-then-s-p
 returns-then-s-p c = none_sees c.args.s.now c.args.p 0 (omega arith)
 
-pub loop-n-init : goal.loop-n-init
+pub bytes-init : goal.bytes-init
 unfolding number unpack
-loop-n-init c = (omega arith, refl)
+bytes-init c = (omega arith, refl)
 
 pub overflow_mul-x : goal.overflow_mul-x
 overflow_mul-x c =
     let a = c.args in
-    let v = c.loop-n in
-    omega (arith, v.invariant.1, number_small a.s.now a.p v.n 6 (omega arith))
+    let v = c.bytes in
+    omega (arith, v.invariant.1, number_small a.s.now a.p v.byte-index 6 (omega arith))
 
 pub overflow_add-x : goal.overflow_add-x
 overflow_add-x c =
     let a = c.args in
-    let v = c.loop-n in
-    omega (arith, c.type_inv.s (a.p + v.n), v.invariant.1, number_small a.s.now a.p v.n 6 (omega arith))
+    let v = c.bytes in
+    omega (arith, v.invariant.1, number_small a.s.now a.p v.byte-index 6 (omega arith))
 
-pub loop-n-preserved : goal.loop-n-preserved
-loop-n-preserved c =
+pub bytes-preserved : goal.bytes-preserved
+bytes-preserved c =
     let a = c.args in
-    let v = c.loop-n in (
+    let v = c.bytes in
+    let e : c.from.result ≡ get_or a.s.now (a.p + v.byte-index) 0 =
+    c.from.ensures ∙ rw (take_all (length a.s.now - a.p) (drop a.p a.s.now) (rw length-drop (omega arith)), get_or-drop a.p a.s.now v.byte-index 0) in (
       omega arith,
-      rw (v.invariant.1, c.wide.ensures) (number_more a.s.now a.p v.n (λ i. omega (arith, c.type_inv.s i)) (omega arith)),
+      rw (v.invariant.1, e) (number_more a.s.now a.p v.byte-index (λ i. omega (arith, c.type_inv.s i)) (omega arith)),
     )
 
 pub returns : goal.returns
 returns c =
     let a = c.args in
-    let v = c.loop-n in
-    rw v.invariant.1 (tail_sees a.s.now a.p v.n (omega arith) (omega arith) (omega arith))
+    let v = c.bytes in
+    let e : v.byte-index ≡ length a.s.now - a.p = omega arith in
+    rw v.invariant.1 (rw e (tail_sees a.s.now a.p (length a.s.now - a.p) (omega arith) (omega arith) (omega arith)))

@@ -1,12 +1,7 @@
--- The loop reads the bytes as one number, whose bits are theirs, and the shift moves them to the top. Assumes nothing.
-use mathlib.Core.Path.{◌≡◌}
-use Prim.Native.Nat.{◌+◌, ◌-◌, ◌≤◌}
-use lib.ListN.{length, take, drop}
+-- The loop reads the bytes as one number, whose bits are theirs.
+use Rattle.std.proofs.Common.{◌≡◌, ◌-◌, ◌≤◌, length, take, drop}
 use Rattle.bitstream.specs.Stream.{number, unpack}
 use Rattle.bitstream.proofs.read.load_tail.Given as goal
 
-abbrev pub invariant-loop-n : goal.invariant-loop-n
-invariant-loop-n l = (l.p + l.n ≤ length l.s) × (l.x ≡ number (unpack (take l.n (drop l.p l.s))))
-
-abbrev pub decreases-loop-n : goal.decreases-loop-n
-decreases-loop-n l = length l.s - l.n
+abbrev pub invariant-bytes : goal.invariant-bytes
+invariant-bytes l = (l.byte-index ≤ length l.fn.s - l.fn.p) × (l.x ≡ number (unpack (take l.byte-index (drop l.fn.p l.fn.s))))

@@ -1,5 +1,5 @@
 -- The first value as it is; a later one with the statistics held, which step behind it.
-use native.Mathlib.Omega.{arith}
+use Rattle.std.proofs.Common.{arith}
 use Rattle.body_value.proofs.Codes.{plain_in, first_coded, counting, keeping, putting, later_coded}
 use Rattle.body_value.proofs.coding.coded.Goals as goal
 

@@ -1,10 +1,9 @@
 -- The first value as it is; a later one with the statistics held, which step behind it.
-use mathlib.Core.Path.{◌≡◌}
-use Prim.Native.Nat.{◌≤◌}
-use native.Mathlib.Omega.{arith}
-use lib.ListN.{length, drop}
+use Rattle.std.proofs.Common.{◌≡◌, ◌≤◌, arith, length, drop}
 use Rattle.bitstream.specs.Stream as stream
 use Rattle.bitstream.specs.Stream.{unpack}
+use Rattle.std.proofs.lemmas.Result.{err_from_is_err_and}
+use Rattle.bitstream.specs.Reader.{unread}
 use Rattle.coder.specs.Codeword.{parse}
 use Rattle.coder.specs.Statistics.{parameter}
 use Rattle.body_value.proofs.Codes.{plain_at, first_decoded, counting, keeping, getting, off_is, delta_small, later_found}
@@ -18,38 +17,37 @@ pub returns-then-t-eq0 : goal.returns-then-t-eq0
 returns-then-t-eq0 c =
     first_decoded c.requires (unpack c.args.file.now) c.args.t c.if-t-eq0.true c.get.result c.get.ensures
 
-pub get_value-found-requires : goal.get_value-found-requires
-get_value-found-requires c =
+pub get_value-requires : goal.get_value-requires
+get_value-requires c =
     getting c.requires c.held-old.ensures
 
 pub next_statistics-new-requires : goal.next_statistics-new-requires
 next_statistics-new-requires c =
     let parsed : let a = c.args in
     (parse a.p.settings.image.depth a.p.settings.coder.unary (parameter a.p.settings.image.depth c.held-old.result) (drop a.at (unpack a.file.now))
-    ≡ stream.ok c.in-Value.delta (drop c.in-Value.next (unpack a.file.now))) × (c.in-Value.next ≤ length (unpack a.file.now)) =
-    rw c.in-Value.is at c.get_value-found.ensures in
+    ≡ stream.ok c.in_ok-delta.delta (drop c.in_ok-delta.next (unpack a.file.now))) × (c.in_ok-delta.next ≤ length (unpack a.file.now)) =
+    rw c.in_ok-delta.was at c.get_value.ensures in
     counting c.requires.plan c.requires.fit c.held-old.ensures (delta_small c.requires c.held-old.ensures (unpack c.args.file.now) c.args.t (let n = c.if-t-eq0.false in omega arith) parsed)
 
 pub keep-requires : goal.keep-requires
 keep-requires c =
     let parsed : let a = c.args in
     (parse a.p.settings.image.depth a.p.settings.coder.unary (parameter a.p.settings.image.depth c.held-old.result) (drop a.at (unpack a.file.now))
-    ≡ stream.ok c.in-Value.delta (drop c.in-Value.next (unpack a.file.now))) × (c.in-Value.next ≤ length (unpack a.file.now)) =
-    rw c.in-Value.is at c.get_value-found.ensures in
+    ≡ stream.ok c.in_ok-delta.delta (drop c.in_ok-delta.next (unpack a.file.now))) × (c.in_ok-delta.next ≤ length (unpack a.file.now)) =
+    rw c.in_ok-delta.was at c.get_value.ensures in
     keeping c.requires.plan c.requires.fit c.held-old.ensures (delta_small c.requires c.held-old.ensures (unpack c.args.file.now) c.args.t (let n = c.if-t-eq0.false in omega arith) parsed) c.next_statistics-new.ensures
 
-pub returns-in-Value : goal.returns-in-Value
-returns-in-Value c =
+pub returns : goal.returns
+returns c =
     let parsed : let a = c.args in
     (parse a.p.settings.image.depth a.p.settings.coder.unary (parameter a.p.settings.image.depth c.held-old.result) (drop a.at (unpack a.file.now))
-    ≡ stream.ok c.in-Value.delta (drop c.in-Value.next (unpack a.file.now))) × (c.in-Value.next ≤ length (unpack a.file.now)) =
-    rw c.in-Value.is at c.get_value-found.ensures in
+    ≡ stream.ok c.in_ok-delta.delta (drop c.in_ok-delta.next (unpack a.file.now))) × (c.in_ok-delta.next ≤ length (unpack a.file.now)) =
+    rw c.in_ok-delta.was at c.get_value.ensures in
     later_found c.requires c.held-old.ensures (unpack c.args.file.now) c.args.t (let n = c.if-t-eq0.false in omega arith) parsed c.next_statistics-new.ensures c.keep.ensures
 
-pub returns-in-Short : goal.returns-in-Short
-returns-in-Short c =
-    off_is c.requires c.held-old.ensures (unpack c.args.file.now) c.args.t (let n = c.if-t-eq0.false in omega arith) stream.short (rw c.in-Short.is at c.get_value-found.ensures)
-
-pub returns-in-Bad : goal.returns-in-Bad
-returns-in-Bad c =
-    off_is c.requires c.held-old.ensures (unpack c.args.file.now) c.args.t (let n = c.if-t-eq0.false in omega arith) stream.bad (rw c.in-Bad.is at c.get_value-found.ensures)
+pub returns-in_err-delta : goal.returns-in_err-delta
+returns-in_err-delta c =
+    let p = err_from_is_err_and c.from_residual.result c.from_residual.ensures.1 in
+    let missed : let a = c.args in parse a.p.settings.image.depth a.p.settings.coder.unary (parameter a.p.settings.image.depth c.held-old.result) (drop a.at (unpack a.file.now)) ≡ unread c.in_err-delta.field-0.0 =
+    rw c.in_err-delta.was at c.get_value.ensures in
+    rw (p.1, p.2) (off_is c.requires c.held-old.ensures (unpack c.args.file.now) c.args.t (let n = c.if-t-eq0.false in omega arith) (unread c.in_err-delta.field-0.0) missed)

@@ -1,12 +1,8 @@
 -- Each number is the definition's.
-use mathlib.Core.Path.{◌∙◌}
-use Prim.Native.Nat.{◌*◌}
-use native.Mathlib.Omega.{arith}
-use mir.Syntax.{w32}
-use mir.Facts.{to_z-of_z}
+use Rattle.std.proofs.Common.{◌∙◌, ◌*◌, w32, to_z-of_z}
 use Rattle.integers.specs.Laws.{ok}
 use Rattle.body_value.specs.Plan.{plan_of}
-use Rattle.body_value.proofs.Plans.{area_fits, depth_in, interval_most}
+use Rattle.body_value.proofs.Plans.{depth_in, interval_most}
 use Rattle.body_value.proofs.plan.plan_of.Goals as goal
 
 pub lowest-low-requires : goal.lowest-low-requires
@@ -23,22 +19,11 @@ highest-high-requires c =
 
 pub halvings-interval-requires : goal.halvings-interval-requires
 halvings-interval-requires c =
-    let at-start = c in
     interval_most c.args.s c.requires
-
-pub overflow_mul-area : goal.overflow_mul-area
-overflow_mul-area c =
-    let at-start = c in
-    let h = area_fits c.args.s c.requires in omega arith
 
 pub returns : goal.returns
 unfolding plan_of
 returns c =
-    let at-halvings = c in
-    let at-highest = c in
-    let at-middle = c in
-    let at-lowest = c in
-    let at-start = c in
     let l = c.lowest-low in
     let m = c.middle-middle in
     let h = c.highest-high in

@@ -1,12 +1,6 @@
 -- The exponent and the direction of the step are the definition’s; the first value steps nothing.
-use mathlib.Core.Path.{◌≡◌, sym}
-use Prim.Native.Nat.{◌^◌}
-use native.Mathlib.Omega.{arith}
-use lib.IntN.{pos}
+use Rattle.std.proofs.Common.{◌≡◌, sym, ◌^◌, arith, pos, w32, SFits, to_z-of_z}
 use lib.Signed.{le_z}
-use mir.Syntax.{w32}
-use mir.Val.{SFits}
-use mir.Facts.{to_z-of_z}
 use Rattle.integers.proofs.Laws.{sz_abs, sz_fits}
 use Rattle.predictor.specs.WeightUpdate.{scaled_error, exponent_by}
 use Rattle.body_value.proofs.Plans.{legal, vmin_fits, vmax_fits}

@@ -1,11 +1,5 @@
 -- The sample under its prediction, and what is learnt from it.
-use Prim.Native.Nat.{◌+◌, ◌*◌}
-use native.Mathlib.Omega.{arith}
-use lib.IntN.{pos}
-use lib.ListN.{get_or}
-use mir.Syntax.{w32, w64}
-use mir.Val.{SFits}
-use mir.Facts.{to_z-of_z}
+use Rattle.std.proofs.Common.{◌+◌, ◌*◌, arith, pos, get_or, w32, w64, SFits, to_z-of_z, rules}
 use Rattle.integers.specs.Laws.{ok}
 use Rattle.body_value.proofs.Plans.{low_fits, high_fits}
 use Rattle.body_value.proofs.Predicts.{index_in, index_small, sample_at, learning, mapping, mapped_so}
@@ -38,7 +32,7 @@ map_residual-requires c =
     let st-fits : SFits w64 c.scaled_here-scaled.result =
     ok w64 c.scaled_here-scaled.result c.scaled_here-scaled.type_inv in
     let s-fits : let a = c.args in SFits w32 (get_or a.image.now (a.place.z * a.p.area + a.place.t) (pos 0)) =
-    ok w32 _ c.sample-1.given in
+    search rules in
     let u = c.requires.plan in
     simp (to_z-of_z, s-fits, low_fits u, high_fits u, st-fits) (mapping c.requires c.scaled_here-scaled.ensures _ (sample_at c.requires))
 
@@ -47,6 +41,6 @@ returns c =
     let st-fits : SFits w64 c.scaled_here-scaled.result =
     ok w64 c.scaled_here-scaled.result c.scaled_here-scaled.type_inv in
     let s-fits : let a = c.args in SFits w32 (get_or a.image.now (a.place.z * a.p.area + a.place.t) (pos 0)) =
-    ok w32 _ c.sample-1.given in
+    search rules in
     let u = c.requires.plan in
     mapped_so c.requires c.scaled_here-scaled.ensures _ _ _ (sample_at c.requires) (simp (to_z-of_z, s-fits, low_fits u, high_fits u, st-fits) at c.map_residual.ensures) (simp (to_z-of_z, s-fits, st-fits) at c.learn.ensures)

@@ -1,7 +1,5 @@
 -- The sample of a mapped value under its prediction, and what is learnt from it.
-use mir.Syntax.{w32, w64}
-use mir.Val.{SFits}
-use mir.Facts.{to_z-of_z}
+use Rattle.std.proofs.Common.{w32, w64, SFits, to_z-of_z}
 use Rattle.integers.specs.Laws.{ok}
 use Rattle.body_value.proofs.Plans.{low_fits, high_fits}
 use Rattle.body_value.proofs.Predicts.{learning, unmapping, restored_so}

@@ -1,9 +1,5 @@
 -- The first value by the band before, a later one by its components.
-use mathlib.Core.Path.{sym}
-use native.Mathlib.Omega.{arith}
-use mir.Syntax.{w64}
-use mir.Val.{SFits}
-use mir.Facts.{to_z-of_z}
+use Rattle.std.proofs.Common.{sym, arith, w64, SFits, to_z-of_z}
 use Rattle.integers.specs.Laws.{ok}
 use Rattle.body_value.proofs.Plans.{low_fits, middle_fits, high_fits}
 use Rattle.body_value.proofs.Predicts.{few, held_long, us_taken, terms, first_is, later_is}

@@ -1,9 +1,8 @@
 -- Quotient and remainder of the number are the row’s.
-use mathlib.Core.Path.{sym}
-use native.Mathlib.Omega.{arith}
+use Rattle.std.proofs.Common.{sym, arith}
 use Rattle.body.specs.Order.{sub_frames}
 use Rattle.body_value.proofs.Plans.{legal}
-use Rattle.body_walk.proofs.Orders.{at_band, at_frame_last, at_frame_whole, band_below, some_frames, from_below, count_bands}
+use Rattle.body_walk.proofs.Orders.{at_band, at_frame_min, band_below, some_frames, from_below, count_bands}
 use Rattle.body_walk.proofs.rows.row_at.Goals as goal
 
 pub nonzero_div-z : goal.nonzero_div-z
@@ -21,10 +20,6 @@ overflow_add-result c =
 pub returns-then-i : goal.returns-then-i
 returns-then-i c =
     sym (at_band c.args.p.settings.image c.args.n c.if-i.true)
-
-pub overflow_add-frames : goal.overflow_add-frames
-overflow_add-frames c =
-    let a = (legal c.requires.0).image.nz_most in let d = ((legal c.requires.0).image.interleaved c.if-i.false).1 in omega arith
 
 pub overflow_sub-frames : goal.overflow_sub-frames
 overflow_sub-frames c =
@@ -44,32 +39,22 @@ unfolding sub_frames
 overflow_mul-from c =
     let b = (from_below c.args.p.settings.image c.args.n ((legal c.requires.0).image.interleaved c.if-i.false).0 (legal c.requires.0).image.nz_least) in let k = (legal c.requires.0).image.nz_most in omega arith
 
-pub overflow_sub-nz : goal.overflow_sub-nz
+pub overflow_add-from : goal.overflow_add-from
 unfolding sub_frames
-overflow_sub-nz c =
-    let b = (from_below c.args.p.settings.image c.args.n ((legal c.requires.0).image.interleaved c.if-i.false).0 (legal c.requires.0).image.nz_least) in omega arith
+overflow_add-from c =
+    let i = (legal c.requires.0).image in
+    let m = i.interleaved c.if-i.false in
+    let b = from_below c.args.p.settings.image c.args.n m.0 i.nz_least in
+    let k = i.nz_most in
+    let d = m.1 in omega arith
 
 pub nonzero_div-result : goal.nonzero_div-result
 unfolding sub_frames
 nonzero_div-result c =
     let b = (some_frames c.args.p.settings.image c.args.n ((legal c.requires.0).image.interleaved c.if-i.false).0 (legal c.requires.0).image.nz_least) in omega arith
 
-pub returns-then-nz-from : goal.returns-then-nz-from
-unfolding sub_frames
-returns-then-nz-from c =
-    sym (at_frame_last c.args.p.settings.image c.args.n c.if-i.false ((legal c.requires.0).image.interleaved c.if-i.false).0 (legal c.requires.0).image.nz_least c.if-nz-from.true)
-
-pub nonzero_div-result-2 : goal.nonzero_div-result-2
-unfolding sub_frames
-nonzero_div-result-2 c =
-    let b = (some_frames c.args.p.settings.image c.args.n ((legal c.requires.0).image.interleaved c.if-i.false).0 (legal c.requires.0).image.nz_least) in omega arith
-
-pub overflow_add-result-2 : goal.overflow_add-result-2
-unfolding sub_frames
-overflow_add-result-2 c =
-    let b = (from_below c.args.p.settings.image c.args.n ((legal c.requires.0).image.interleaved c.if-i.false).0 (legal c.requires.0).image.nz_least) in let k = (legal c.requires.0).image.nz_most in let l = c.if-nz-from.false in omega arith
-
 pub returns : goal.returns
 unfolding sub_frames
 returns c =
-    sym (at_frame_whole c.args.p.settings.image c.args.n c.if-i.false c.if-nz-from.false)
+    let i = (legal c.requires.0).image in
+    sym (at_frame_min c.args.p.settings.image c.args.n c.if-i.false (i.interleaved c.if-i.false).0 i.nz_least c.min.ensures)

@@ -3,23 +3,13 @@ use Rattle.bitstream.specs.Stream.{unpack}
 use Rattle.body_walk.proofs.Bodies.{reads, answered}
 use Rattle.body_walk.proofs.whole.read_body.Goals as goal
 
-pub begin_bands-requires : goal.begin_bands-requires
-begin_bands-requires c =
-    let at-start = c in
-    c.requires.tabled
-
 pub read_rows-requires : goal.read_rows-requires
 read_rows-requires c =
-    let at-begin-bands = c in
-    let at-start = c in
     let b = c.begin_bands in
     reads c.requires.tabled b.ensures b.auto.scratch c.requires
 
 pub returns : goal.returns
 returns c =
-    let at-read-rows = c in
-    let at-begin-bands = c in
-    let at-start = c in
     let b = c.begin_bands in
     let r = c.read_rows in
     answered c.requires.tabled b.ensures b.auto.scratch c.args.image.now (unpack c.args.file.now) c.args.at r.new.image r.new.scratch r.result r.ensures

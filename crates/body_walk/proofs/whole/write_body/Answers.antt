@@ -2,22 +2,12 @@
 use Rattle.body_walk.proofs.Bodies.{writes, written}
 use Rattle.body_walk.proofs.whole.write_body.Goals as goal
 
-pub begin_bands-requires : goal.begin_bands-requires
-begin_bands-requires c =
-    let at-start = c in
-    c.requires.tabled
-
 pub write_rows-requires : goal.write_rows-requires
 write_rows-requires c =
-    let at-begin-bands = c in
-    let at-start = c in
     let b = c.begin_bands in
     writes c.requires.tabled b.ensures b.auto.scratch c.requires
 
 pub returns : goal.returns
 returns c =
-    let at-write-rows = c in
-    let at-begin-bands = c in
-    let at-start = c in
     let b = c.begin_bands in
     written c.requires.tabled b.ensures b.auto.scratch c.write_rows.ensures

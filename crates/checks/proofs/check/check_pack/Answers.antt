@@ -9,11 +9,12 @@ use borrow.Author.Tests.{lt-ltb, le-ltb}
 use Rattle.refusals.specs.Tests.{first_hit}
 use Rattle.settings.specs.Legal.{settings_legal, limited, sample_count}
 use Rattle.settings.specs.LegalLaws.{legal_settings, count_fits}
+use Rattle.settings.specs.Range.{first_out}
 use Rattle.settings.specs.Tables.{tables_legal}
 use Rattle.settings.specs.Checks.{areas_short, check_pack}
 use Rattle.settings.specs.CheckLaws.{roomy}
 use Rattle.std.proofs.lemmas.Bool.{ne_eqb}
-use Rattle.std.proofs.Common.{eq-eqb}
+use Rattle.std.proofs.Common.{eq-eqb, le_refl, rules}
 use Rattle.checks.proofs.check.check_pack.Goals as goal
 
 pub returns-then-not-settings_legal : goal.returns-then-not-settings_legal
@@ -83,15 +84,15 @@ returns-then-not-tables_legal c =
     sym c.areas_short.ensures ∙ c.if-areas_short.false in
     rw (legal, small, counted, roomy-areas, sym c.tables_legal.ensures ∙ c.if-not-tables_legal.true)
 
-pub first_out-first-requires : goal.first_out-first-requires
-first_out-first-requires c =
+pub first_out-requires : goal.first_out-requires
+first_out-requires c =
     let legal : settings_legal c.args.s ≡ true =
     sym c.settings_legal.ensures ∙ c.if-not-settings_legal.false in
     let l = (legal_settings c.args.s legal).image in record { le_depth = omega (arith, l.depth_least); depth_bound = l.depth_most }
 
-pub returns-then-first-samples : goal.returns-then-first-samples
+pub returns-in-Some : goal.returns-in-Some
 unfolding check_pack first_hit
-returns-then-first-samples c =
+returns-in-Some c =
     let legal : settings_legal c.args.s ≡ true =
     sym c.settings_legal.ensures ∙ c.if-not-settings_legal.false in
     let small : limited c.args.s.image ≡ true =
@@ -104,7 +105,7 @@ returns-then-first-samples c =
     sym c.areas_short.ensures ∙ c.if-areas_short.false in
     let values : tables_legal c.args.s c.args.tables.now ≡ true =
     sym c.tables_legal.ensures ∙ c.if-not-tables_legal.false in
-    rw (legal, small, counted, roomy-areas, values, ← c.first_out-first.ensures, lt-ltb _ _ c.if-first-samples.true)
+    rw (legal, small, counted, roomy-areas, values, c.in-Some.ensures.0, lt-ltb _ _ c.in-Some.ensures.1)
 
 pub returns : goal.returns
 unfolding check_pack first_hit
@@ -121,4 +122,5 @@ returns c =
     sym c.areas_short.ensures ∙ c.if-areas_short.false in
     let values : tables_legal c.args.s c.args.tables.now ≡ true =
     sym c.tables_legal.ensures ∙ c.if-not-tables_legal.false in
-    rw (legal, small, counted, roomy-areas, values, ← c.first_out-first.ensures, le-ltb _ _ c.if-first-samples.false)
+    let all : first_out c.args.s.image c.args.samples.now ≡ length c.args.samples.now = search rules in
+    rw (legal, small, counted, roomy-areas, values, all, le-ltb _ _ (le_refl (length c.args.samples.now)))

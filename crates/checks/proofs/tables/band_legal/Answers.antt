@@ -1,5 +1,5 @@
 -- A band is legal where both of its parts are; legal settings bound the depth, the precision and the number of components.
-use native.Mathlib.Omega.{arith}
+use Rattle.std.proofs.Common.{arith}
 use Rattle.settings.specs.Tables.{band_legal}
 use Rattle.settings.specs.LegalLaws.{legal_settings}
 use Rattle.checks.proofs.tables.band_legal.Goals as goal

@@ -1,25 +1,21 @@
--- Default weights ask for nothing; custom ones are tested slot by slot, and a band has slots for all its components.
-use mathlib.Core.Path.{◌≡◌}
-use mathlib.Core.Bool.{true}
-use Prim.Native.Nat.{◌≤◌}
-use native.Mathlib.Omega.{arith}
-use borrow.Author.Tests.{not-false}
+-- Default weights ask for nothing; of custom ones a band has slots for all.
+use Rattle.std.proofs.Common.{ℕ, ◌≡◌, ◌≤◌, arith}
+use Rattle.settings.specs.declared.Predictor.{Predictor}
+use Rattle.settings.specs.Tables.{component_count}
 use Rattle.settings.specs.TableLaws.{components_fit, weights_asked}
+use Rattle.checks.proofs.Searches.{every_slot}
 use Rattle.checks.proofs.tables.custom_legal.Goals as goal
 
-pub weights_legal-requires : goal.weights_legal-requires
-weights_legal-requires c =
-    let s = c in
-    let precise : c.args.p.custom ≡ true → (1 ≤ c.args.p.precision) × (c.args.p.precision ≤ 31) = c.requires.le_precision in
-    let k = precise (not-false _ c.if-not-p.false) in
-    record {
-      le_q = k.0;
-      q_bound = k.1;
-      count_le_parameter_slot = omega (arith, c.component_count-count.ensures, components_fit c.args.p c.args.z c.requires.bands_bound);
-      z_in_bounds = c.requires.z_in_bounds;
-    }
+few : (p : Predictor) (z n : ℕ) → p.bands ≤ 15 → n ≡ component_count p z → n ≤ 18
+few p z n h e = omega (arith, e, components_fit p z h)
+
+pub overflow_add-base : goal.overflow_add-base
+overflow_add-base c = omega (arith, few _ _ _ c.requires.bands_bound c.component_count-count.ensures)
+
+pub slice_bounds-weights_legal-end : goal.slice_bounds-weights_legal-end
+slice_bounds-weights_legal-end c = omega (arith, few _ _ _ c.requires.bands_bound c.component_count-count.ensures)
 
 pub returns : goal.returns
 returns c =
-    let s = c in
-    weights_asked c.args.p c.args.tables.now c.args.z c.if-not-p.false c.component_count-count.ensures c.weights_legal.ensures
+    weights_asked c.args.p c.args.tables.now c.args.z c.if-not-p.false c.component_count-count.ensures
+    (every_slot c.args.tables.now c.args.p.precision c.args.z c.component_count-count.result (omega (arith, few _ _ _ c.requires.bands_bound c.component_count-count.ensures)) c.weights_legal.ensures)

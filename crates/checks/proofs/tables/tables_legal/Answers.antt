@@ -1,39 +1,23 @@
 -- Every band before the one that the loop has reached is legal, so one that is not decides, and so does the end.
-use mathlib.Core.Path.{◌≡◌, sym, ◌∙◌}
-use native.Mathlib.Omega.{arith}
+use Rattle.std.proofs.Common.{◌≡◌, sym, ◌∙◌, arith}
 use Rattle.settings.specs.Tables.{band_legal, tables_legal}
 use Rattle.settings.specs.TableLaws.{every_of, every_more, every_not, every_same}
 use Rattle.checks.proofs.tables.tables_legal.Goals as goal
 
 pub loop-z-init : goal.loop-z-init
-loop-z-init c = (omega arith, every_of 0 (band_legal c.args.s c.args.tables.now) (λ i h. absurd (omega arith)))
-
-pub band_legal-requires : goal.band_legal-requires
-band_legal-requires c = record {
-  s_value = c.requires.s_value;
-  z_in_bounds = omega arith;
-}
+loop-z-init c = every_of 0 (band_legal c.args.s c.args.tables.now) (λ i h. absurd (omega arith))
 
 pub returns-then-not-band_legal : goal.returns-then-not-band_legal
 unfolding tables_legal
 returns-then-not-band_legal c =
-    let s = c in
     sym (every_not c.args.s.image.nz (band_legal c.args.s c.args.tables.now) c.loop-z.z (omega arith) (sym c.band_legal.ensures ∙ c.if-not-band_legal.true))
-
-pub overflow_add-z : goal.overflow_add-z
-overflow_add-z c = omega arith
-
-pub loop-z-smaller : goal.loop-z-smaller
-loop-z-smaller c = omega arith
 
 pub loop-z-preserved : goal.loop-z-preserved
 loop-z-preserved c =
-    let s = c in
-    (omega arith, every_more c.loop-z.z (band_legal c.args.s c.args.tables.now) c.loop-z.invariant.1 (sym c.band_legal.ensures ∙ c.if-not-band_legal.false))
+    every_more c.loop-z.z (band_legal c.args.s c.args.tables.now) c.loop-z.invariant (sym c.band_legal.ensures ∙ c.if-not-band_legal.false)
 
 pub returns : goal.returns
 unfolding tables_legal
 returns c =
-    let s = c in
     let all : c.loop-z.z ≡ c.args.s.image.nz = omega arith in
-    sym c.loop-z.invariant.1 ∙ every_same (band_legal c.args.s c.args.tables.now) all
+    sym c.loop-z.invariant ∙ every_same (band_legal c.args.s c.args.tables.now) all

@@ -13,7 +13,7 @@ put_codeword-requires c =
     let e = c.code_parameter-k.ensures in
     let m = parameter_most c.args.depth c.args.s in
     let p = c.requires in
-    (p.depth_most, p.unary_most, let d = p.depth_most in omega arith, p.delta_fits, p.count, p.room)
+    (p.depth_most, p.unary_most, let d = p.depth_most in omega arith, p.delta_fits, p.room)
 
 pub returns : goal.returns
 returns c =

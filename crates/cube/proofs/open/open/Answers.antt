@@ -1,14 +1,13 @@
 -- The header decides first.
-use mathlib.Core.Path.{subst}
+use Rattle.std.proofs.Common.{subst}
+use Rattle.std.proofs.lemmas.Result.{err_from_is_err_and}
 use Rattle.bitstream.specs.Stream.{unpack}
 use Rattle.header_reader.specs.Answers.{HeaderMeans}
 use Rattle.cube.proofs.Openings.{opens_no_header}
 use Rattle.cube.proofs.open.open.Goals as goal
 
-pub open_lent-requires : goal.open_lent-requires
-open_lent-requires c = subst (HeaderMeans (unpack c.args.file.now)) c.in-Header.is c.read_header-read.ensures
-
-pub returns-in-Refused : goal.returns-in-Refused
-returns-in-Refused c =
+pub returns-in_err-s : goal.returns-in_err-s
+returns-in_err-s c =
     let a = c.args in
-    opens_no_header a.file.now a.scratch.now a.tables.now a.image.now _ (subst (HeaderMeans (unpack a.file.now)) c.in-Refused.is c.read_header-read.ensures)
+    let p = err_from_is_err_and c.from_residual.result c.from_residual.ensures.1 in
+    rw (p.1, p.2) (opens_no_header a.file.now a.scratch.now a.tables.now a.image.now _ (subst (HeaderMeans (unpack a.file.now)) c.in_err-s.was c.read_header.ensures))

@@ -4,13 +4,13 @@ use Prim.Native.Nat.{ℕ}
 use native.Mathlib.Omega.{arith}
 use lib.IntN.{pos}
 use lib.ListN.{length, replicate}
-use Rattle.cube.specs.Opening.{is_refused}
+use Rattle.std.specs.Prelude.{is_err}
 use Rattle.cube.proofs.Openings.{part_long, begun_legal, begun_limited, tables_long, front_long, begun_starts, begun_outcome, image_long, opens_done, opens_refused}
 use borrow.Author.Rules.{rules}
 use Rattle.cube.proofs.open.open_body.Goals as goal
 
-pub slice_bounds-clear_slots-end-2 : goal.slice_bounds-clear_slots-end-2
-slice_bounds-clear_slots-end-2 c =
+pub slice_bounds-clear-end-2 : goal.slice_bounds-clear-end-2
+slice_bounds-clear-end-2 c =
     let a = c.args in
     let L = c.requires in
     let n = c.sample_count-count in
@@ -30,7 +30,7 @@ slice_bounds-read_body-end-2 c =
     let L = c.requires in
     let n = c.sample_count-count in
     let t = c.store_tables in
-    let z = c.clear_slots in
+    let z = c.clear in
     tables_long a.file.now a.scratch.now a.tables.now a.image.now a.s a.at L t.new.tables z.new.area n.result (t.ensures.stored L.begins.header _ L.begins.read) n.ensures z.ensures
 
 pub slice_bounds-read_body-end-4 : goal.slice_bounds-read_body-end-4
@@ -39,16 +39,16 @@ slice_bounds-read_body-end-4 c =
     let L = c.requires in
     let n = c.sample_count-count in
     let t = c.store_tables in
-    let z = c.clear_slots in
+    let z = c.clear in
     front_long a.file.now a.scratch.now a.tables.now a.image.now a.s a.at L t.new.tables z.new.area n.result (t.ensures.stored L.begins.header _ L.begins.read) n.ensures z.ensures
 
-pub read_body-step-requires : goal.read_body-step-requires
-read_body-step-requires c =
+pub read_body-body-requires : goal.read_body-body-requires
+read_body-body-requires c =
     let a = c.args in
     let L = c.requires in
     let n = c.sample_count-count in
     let t = c.store_tables in
-    let z = c.clear_slots in
+    let z = c.clear in
     begun_starts a.file.now a.scratch.now a.tables.now a.image.now a.s a.at L t.new.tables z.new.area n.result (t.ensures.stored L.begins.header _ L.begins.read) n.ensures z.ensures _ _ c.plan_of-p.ensures refl
 
 pub answer_of-answer-requires : goal.answer_of-answer-requires
@@ -57,33 +57,33 @@ answer_of-answer-requires c =
     let L = c.requires in
     let n = c.sample_count-count in
     let t = c.store_tables in
-    let z = c.clear_slots in
-    let b = c.read_body-step in
+    let z = c.clear in
+    let b = c.read_body-body in
     let o = begun_outcome a.file.now a.scratch.now a.tables.now a.image.now a.s a.at L t.new.tables z.new.area n.result (t.ensures.stored L.begins.header _ L.begins.read) n.ensures z.ensures _ c.plan_of-p.ensures _ b.result b.ensures in
     (begun_legal a.file.now a.scratch.now a.tables.now a.image.now a.s a.at L.begins, begun_limited a.file.now a.scratch.now a.tables.now a.image.now a.s a.at L.begins, o.reached)
 
-pub returns-then-is_refused : goal.returns-then-is_refused
-returns-then-is_refused c =
+pub returns-then-is_err : goal.returns-then-is_err
+returns-then-is_err c =
     let a = c.args in
     let L = c.requires in
     let n = c.sample_count-count in
     let t = c.store_tables in
-    let z = c.clear_slots in
-    let b = c.read_body-step in
+    let z = c.clear in
+    let b = c.read_body-body in
     let r = c.answer_of-answer in
     let o = begun_outcome a.file.now a.scratch.now a.tables.now a.image.now a.s a.at L t.new.tables z.new.area n.result (t.ensures.stored L.begins.header _ L.begins.read) n.ensures z.ensures _ c.plan_of-p.ensures _ b.result b.ensures in
     let l : length t.new.tables ≡ length a.tables.now = search rules in
-    opens_refused a.file.now a.scratch.now a.tables.now a.image.now a.s a.at L _ _ _ _ b.result _ o r.ensures (sym (ap is_refused r.ensures) ∙ sym c.is_refused.ensures ∙ c.if-is_refused.true) (c.clear_slots-then-is_refused.ensures ∙ ap (λ (j : ℕ). replicate j (pos 0)) l)
-    (c.clear_slots-then-is_refused-2.ensures ∙ ap (λ (j : ℕ). replicate j (pos 0)) (image_long a.file.now a.scratch.now a.tables.now a.image.now a.s a.at L t.new.tables z.new.area n.result (t.ensures.stored L.begins.header _ L.begins.read) n.ensures z.ensures b.new.image b.auto.image))
+    opens_refused a.file.now a.scratch.now a.tables.now a.image.now a.s a.at L _ _ _ _ b.result _ o r.ensures (sym (ap is_err r.ensures) ∙ sym c.is_err.ensures.value ∙ c.if-is_err.true) (c.clear-then-is_err.ensures ∙ ap (λ (j : ℕ). replicate j (pos 0)) l)
+    (c.clear-then-is_err-2.ensures ∙ ap (λ (j : ℕ). replicate j (pos 0)) (image_long a.file.now a.scratch.now a.tables.now a.image.now a.s a.at L t.new.tables z.new.area n.result (t.ensures.stored L.begins.header _ L.begins.read) n.ensures z.ensures b.new.image b.auto.image))
 
-pub returns : goal.returns
-returns c =
+pub returns-else-is_err : goal.returns-else-is_err
+returns-else-is_err c =
     let a = c.args in
     let L = c.requires in
     let n = c.sample_count-count in
     let t = c.store_tables in
-    let z = c.clear_slots in
-    let b = c.read_body-step in
+    let z = c.clear in
+    let b = c.read_body-body in
     let r = c.answer_of-answer in
     let o = begun_outcome a.file.now a.scratch.now a.tables.now a.image.now a.s a.at L t.new.tables z.new.area n.result (t.ensures.stored L.begins.header _ L.begins.read) n.ensures z.ensures _ c.plan_of-p.ensures _ b.result b.ensures in
-    opens_done a.file.now a.scratch.now a.tables.now a.image.now a.s a.at L t.new.tables z.new.area n.result (t.ensures.stored L.begins.header _ L.begins.read) n.ensures z.ensures _ b.result _ o (b.auto.image ∙ sym (front_long a.file.now a.scratch.now a.tables.now a.image.now a.s a.at L t.new.tables z.new.area n.result (t.ensures.stored L.begins.header _ L.begins.read) n.ensures z.ensures)) r.ensures (sym (ap is_refused r.ensures) ∙ sym c.is_refused.ensures ∙ c.if-is_refused.false)
+    opens_done a.file.now a.scratch.now a.tables.now a.image.now a.s a.at L t.new.tables z.new.area n.result (t.ensures.stored L.begins.header _ L.begins.read) n.ensures z.ensures _ b.result _ o (b.auto.image ∙ sym (front_long a.file.now a.scratch.now a.tables.now a.image.now a.s a.at L t.new.tables z.new.area n.result (t.ensures.stored L.begins.header _ L.begins.read) n.ensures z.ensures)) r.ensures (sym (ap is_err r.ensures) ∙ sym c.is_err.ensures.value ∙ c.if-is_err.false)

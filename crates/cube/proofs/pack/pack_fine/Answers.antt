@@ -13,7 +13,7 @@ returns-then-out-size c =
     let w = c.write_file-size in
     let l : length w.new.out ≡ length a.out.now = search rules in
     packs_cleared a.s a.tables.now a.samples.now a.scratch.now a.out.now _ _ c.requires w.ensures.size (omega (arith, c.if-out-size.true))
-    (c.clear_bytes.ensures ∙ ap (λ (n : ℕ). replicate n 0) l)
+    (c.clear.ensures ∙ ap (λ (n : ℕ). replicate n 0) l)
 
 pub returns : goal.returns
 returns c =

@@ -7,12 +7,12 @@ use Rattle.cube_c.proofs.answer.looked_word.Goals as goal
 
 pub refusal_word-requires : goal.refusal_word-requires
 unfolding looked_value
-refusal_word-requires c = let e = ap looked_value c.in-Refused.is in omega arith
+refusal_word-requires c = let e = ap looked_value c.in-Err.is in omega arith
 
-pub returns-in-Settings : goal.returns-in-Settings
+pub returns-in-Ok : goal.returns-in-Ok
 unfolding looked_word opened_number looked_value word_of
-returns-in-Settings c = sym (ap looked_word c.in-Settings.is)
+returns-in-Ok c = sym (ap looked_word c.in-Ok.is)
 
-pub returns-in-Refused : goal.returns-in-Refused
+pub returns-in-Err : goal.returns-in-Err
 unfolding looked_word opened_number looked_value
-returns-in-Refused c = c.refusal_word.ensures ∙ sym (ap looked_word c.in-Refused.is)
+returns-in-Err c = c.refusal_word.ensures ∙ sym (ap looked_word c.in-Err.is)

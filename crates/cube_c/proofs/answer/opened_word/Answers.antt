@@ -7,23 +7,23 @@ use Rattle.cube_c.proofs.answer.opened_word.Goals as goal
 
 pub sample_count-requires : goal.sample_count-requires
 unfolding opened_value
-sample_count-requires c = let e = ap opened_value c.in-Settings.is in omega arith
+sample_count-requires c = let e = ap opened_value c.in-Ok.is in omega arith
 
 pub word-requires : goal.word-requires
 unfolding opened_value
-word-requires c = let e = ap opened_value c.in-Settings.is in record {
+word-requires c = let e = ap opened_value c.in-Ok.is in record {
   number_bound = omega arith;
   value_lt_value_limit = omega (arith, c.sample_count.ensures);
 }
 
 pub refusal_word-requires : goal.refusal_word-requires
 unfolding opened_value
-refusal_word-requires c = let e = ap opened_value c.in-Refused.is in omega arith
+refusal_word-requires c = let e = ap opened_value c.in-Err.is in omega arith
 
-pub returns-in-Settings : goal.returns-in-Settings
+pub returns-in-Ok : goal.returns-in-Ok
 unfolding opened_word opened_number opened_value
-returns-in-Settings c = c.word.ensures ∙ ap (word_of 0) c.sample_count.ensures ∙ sym (ap opened_word c.in-Settings.is)
+returns-in-Ok c = c.word.ensures ∙ ap (word_of 0) c.sample_count.ensures ∙ sym (ap opened_word c.in-Ok.is)
 
-pub returns-in-Refused : goal.returns-in-Refused
+pub returns-in-Err : goal.returns-in-Err
 unfolding opened_word opened_number opened_value
-returns-in-Refused c = c.refusal_word.ensures ∙ sym (ap opened_word c.in-Refused.is)
+returns-in-Err c = c.refusal_word.ensures ∙ sym (ap opened_word c.in-Err.is)

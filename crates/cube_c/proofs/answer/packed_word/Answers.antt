@@ -7,19 +7,19 @@ use Rattle.cube_c.proofs.answer.packed_word.Goals as goal
 
 pub word-requires : goal.word-requires
 unfolding packed_value
-word-requires c = let e = ap packed_value c.in-Length.is in record {
+word-requires c = let e = ap packed_value c.in-Ok.is in record {
   number_bound = omega arith;
   value_lt_value_limit = omega arith;
 }
 
 pub refusal_word-requires : goal.refusal_word-requires
 unfolding packed_value
-refusal_word-requires c = let e = ap packed_value c.in-Refused.is in omega arith
+refusal_word-requires c = let e = ap packed_value c.in-Err.is in omega arith
 
-pub returns-in-Length : goal.returns-in-Length
+pub returns-in-Ok : goal.returns-in-Ok
 unfolding packed_word packed_number packed_value
-returns-in-Length c = c.word.ensures ∙ sym (ap packed_word c.in-Length.is)
+returns-in-Ok c = c.word.ensures ∙ sym (ap packed_word c.in-Ok.is)
 
-pub returns-in-Refused : goal.returns-in-Refused
+pub returns-in-Err : goal.returns-in-Err
 unfolding packed_word packed_number packed_value
-returns-in-Refused c = c.refusal_word.ensures ∙ sym (ap packed_word c.in-Refused.is)
+returns-in-Err c = c.refusal_word.ensures ∙ sym (ap packed_word c.in-Err.is)

@@ -1,6 +1,6 @@
 -- The boundary's statement is the cube's, behind the test of the slots.
+use Rattle.std.specs.Prelude.{Ok}
 use mathlib.Core.Path.{◌≡◌, sym, ◌∙◌}
-use Rattle.refusals.specs.declared.Checked.TheVariants.{Passed}
 use Rattle.settings_slots.specs.Slots.{slots_checked}
 use Rattle.cube_c.specs.BoundaryLaws.{slots_pass}
 use Rattle.cube_c.proofs.Boundaries.{packs_refused, packs_passed, refused_small, packs_small}
@@ -8,21 +8,21 @@ use Rattle.cube_c.proofs.boundary.remulingka_pack.Goals as goal
 
 pub settings_from-requires : goal.settings_from-requires
 settings_from-requires c =
-    let passed : slots_checked c.args.settings.now ≡ Passed =
-    sym c.slots_checked.ensures ∙ c.in-Passed.is in
+    let passed : slots_checked c.args.settings.now ≡ (Ok tt) =
+    sym c.slots_checked.ensures ∙ c.in-Ok.is in
     let l = slots_pass c.args.settings.now passed in record { slot_count_in_bounds = l.0; l_value = l.1 }
 
 pub packed_word-requires : goal.packed_word-requires
 packed_word-requires c = packs_small _ _ _ _ _ c.pack.ensures
 
 pub refusal_word-requires : goal.refusal_word-requires
-refusal_word-requires c = refused_small c.args.settings.now c.in-Refused.w (sym c.slots_checked.ensures ∙ c.in-Refused.is)
+refusal_word-requires c = refused_small c.args.settings.now c.in-Err.w (sym c.slots_checked.ensures ∙ c.in-Err.is)
 
-pub returns-in-Passed : goal.returns-in-Passed
-returns-in-Passed c =
-    let passed : slots_checked c.args.settings.now ≡ Passed =
-    sym c.slots_checked.ensures ∙ c.in-Passed.is in
+pub returns-in-Ok : goal.returns-in-Ok
+returns-in-Ok c =
+    let passed : slots_checked c.args.settings.now ≡ (Ok tt) =
+    sym c.slots_checked.ensures ∙ c.in-Ok.is in
     packs_passed c.args.settings.now c.args.tables.now c.args.samples.now c.args.scratch.now c.args.out.now passed c.settings_from.ensures c.pack.ensures c.packed_word.ensures
 
-pub returns-in-Refused : goal.returns-in-Refused
-returns-in-Refused c = packs_refused c.args.settings.now c.args.tables.now c.args.samples.now c.args.scratch.now c.args.out.now c.in-Refused.w (sym c.slots_checked.ensures ∙ c.in-Refused.is) c.refusal_word.ensures
+pub returns-in-Err : goal.returns-in-Err
+returns-in-Err c = packs_refused c.args.settings.now c.args.tables.now c.args.samples.now c.args.scratch.now c.args.out.now c.in-Err.w (sym c.slots_checked.ensures ∙ c.in-Err.is) c.refusal_word.ensures

@@ -1,27 +1,11 @@
 -- A field that is in the file is found.
-use mathlib.Core.Path.{◌≡◌, ◌∙◌}
-use Prim.Native.Nat.{◌+◌}
-use lib.ListN.{take, drop}
-use Rattle.bitstream.specs.Stream.{number, unpack}
-use Rattle.bitstream.proofs.Laws.{absurd_path}
-use Rattle.bitstream.specs.declared.read.Got.TheVariants.{Value}
-use Rattle.header.proofs.Numbers.{found_there}
+use Rattle.std.proofs.Common.{sym, ◌∙◌}
+use Rattle.bitstream.specs.Stream.{unpack}
+use Rattle.header.proofs.Numbers.{found_number, found_no_less}
 use Rattle.header.proofs.fields.number_at.Goals as goal
 
-pub returns-in-Value : goal.returns-in-Value
-returns-in-Value c =
-    let answered : let a = c.args in c.get.result ≡ Value (number (take a.width (drop a.at (unpack a.file.now)))) (a.at + a.width) =
-    let a = c.args in c.get.ensures ∙ found_there (unpack a.file.now) a.at a.width c.requires.3 in
-    cc (answered, c.in-Value.is)
+pub returns-in-Ok : goal.returns-in-Ok
+returns-in-Ok c = found_number (unpack c.args.file.now) c.args.at c.args.width c.in-Ok.value c.in-Ok.field-0-1 c.requires.3 (sym c.get.ensures ∙ c.in-Ok.is)
 
-pub returns-in-Short : goal.returns-in-Short
-returns-in-Short c =
-    let answered : let a = c.args in c.get.result ≡ Value (number (take a.width (drop a.at (unpack a.file.now)))) (a.at + a.width) =
-    let a = c.args in c.get.ensures ∙ found_there (unpack a.file.now) a.at a.width c.requires.3 in
-    absurd_path (cc (answered, c.in-Short.is))
-
-pub returns-in-Bad : goal.returns-in-Bad
-returns-in-Bad c =
-    let answered : let a = c.args in c.get.result ≡ Value (number (take a.width (drop a.at (unpack a.file.now)))) (a.at + a.width) =
-    let a = c.args in c.get.ensures ∙ found_there (unpack a.file.now) a.at a.width c.requires.3 in
-    absurd_path (cc (answered, c.in-Bad.is))
+pub returns-in-Err : goal.returns-in-Err
+returns-in-Err c = found_no_less (unpack c.args.file.now) c.args.at c.args.width c.in-Err.field-0 c.requires.3 (sym c.get.ensures ∙ c.in-Err.is)

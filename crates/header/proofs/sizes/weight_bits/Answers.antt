@@ -9,12 +9,6 @@ use Rattle.header.proofs.sizes.weight_bits.Goals as goal
 pub components_before-requires : goal.components_before-requires
 components_before-requires c = ((legal_predictor _ _ c.requires.0).bands_most, omega arith)
 
-pub overflow_mul-result : goal.overflow_mul-result
-overflow_mul-result c = omega (arith, bits_most c.args.p.precision c.components_before.result (precision_most _ _ c.requires.0 c.requires.2) (omega arith))
-
 pub returns : goal.returns
 returns c =
-    let s = c in (
-      ap (λ (n : ℕ). c.args.p.precision * n) c.components_before.ensures.0,
-      bits_most c.args.p.precision c.components_before.result (precision_most _ _ c.requires.0 c.requires.2) (omega arith),
-    )
+    (ap (λ (n : ℕ). c.args.p.precision * n) c.components_before.ensures.0, bits_most _ _ (precision_most _ _ c.requires.0 c.requires.2) (omega arith))

@@ -17,9 +17,6 @@ pub returns-then-not-p : goal.returns-then-not-p
 unfolding weights_size
 returns-then-not-p c = (rw (not-true c.args.p.custom c.if-not-p.true), omega arith)
 
-pub weight_bits-requires : goal.weight_bits-requires
-weight_bits-requires c = (c.requires.0, c.requires.1, not-false _ c.if-not-p.false)
-
 pub returns : goal.returns
 returns c =
     let q = not-false _ c.if-not-p.false in

@@ -1,7 +1,6 @@
--- No bits are zero, and others are a number that the test compares.
-use mathlib.Core.Path.{ap}
-use Prim.Native.Nat.{ℕ}
-use lib.Dec.{eqb}
+-- No bits are zero, and others are a number that the test compares. The check finds the second answer too: it stands so that another test is
+-- refused for what it compares.
+use Rattle.std.proofs.Common.{ℕ, eqb, ap}
 use Rattle.bitstream.specs.Stream.{number}
 use Rattle.header_reader.proofs.read.fill_clear.Goals as goal
 

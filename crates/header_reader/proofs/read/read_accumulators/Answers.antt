@@ -34,18 +34,6 @@ returns-then-ends_before c =
     let a = c.args in
     sym (ap table_read (table ∙ table_absent (unpack a.file.now) a.at (4 * a.image.nz) (legal a.image) (omega arith) c.padded-size.result c.padded-size.ensures.0 c.ends_before.result c.ends_before.ensures c.if-ends_before.true))
 
-pub entries_legal-requires : goal.entries_legal-requires
-entries_legal-requires c =
-    let room : c.args.at + c.padded-size.result ≤ length (unpack c.args.file.now) =
-    ltb-false _ _ (sym c.ends_before.ensures ∙ c.if-ends_before.false) in
-    (omega arith, omega arith, omega arith, omega (arith, room))
-
-pub fill_clear-requires : goal.fill_clear-requires
-fill_clear-requires c =
-    let room : c.args.at + c.padded-size.result ≤ length (unpack c.args.file.now) =
-    ltb-false _ _ (sym c.ends_before.ensures ∙ c.if-ends_before.false) in
-    (omega arith, omega arith, omega (arith, room))
-
 pub returns-then-not-entries_legal-fill_clear : goal.returns-then-not-entries_legal-fill_clear
 returns-then-not-entries_legal-fill_clear c =
     let table : let a = c.args in let l = drop a.at (unpack a.file.now) in read_accumulators a.image a.coder l ≡ read_table (4 * a.image.nz) (legal a.image) l =

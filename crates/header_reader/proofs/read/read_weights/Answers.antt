@@ -2,10 +2,9 @@
 use mathlib.Core.Bool.{true, ◌&&◌}
 use mathlib.Core.List.{[]}
 use mathlib.Core.Path.{◌≡◌, refl, sym, ap, ◌∙◌}
-use Prim.Native.Nat.{◌+◌, ◌≤◌}
 use native.Mathlib.Omega.{arith}
-use lib.ListN.{length, take, drop}
-use borrow.Author.Tests.{ltb-false, not-true, not-false}
+use lib.ListN.{take, drop}
+use borrow.Author.Tests.{not-true, not-false}
 use Rattle.bitstream.specs.Stream.{unpack}
 use Rattle.header.specs.Parts.{predictor_end}
 use Rattle.header_reader.proofs.Answering.{PartSeen, illegal, legal_part}
@@ -20,21 +19,12 @@ use Rattle.header_reader.proofs.read.read_weights.Goals as goal
 pub returns-then-not-predictor : goal.returns-then-not-predictor
 returns-then-not-predictor c = sym (ap table_read (weights_default _ _ _ (not-true _ c.if-not-predictor.true)))
 
-pub weight_bits-n-requires : goal.weight_bits-n-requires
-weight_bits-n-requires c = (c.requires.0, c.requires.1, not-false _ c.if-not-predictor.false)
-
 pub returns-then-ends_before : goal.returns-then-ends_before
 returns-then-ends_before c =
     let table : let a = c.args in let l = drop predictor_end (unpack a.file.now) in read_weights a.image a.predictor l ≡ read_table c.weight_bits-n.result (λ t. true) l =
     weights_custom _ _ _ _ (not-false _ c.if-not-predictor.false) c.weight_bits-n.ensures.0 in
     let a = c.args in
     sym (ap table_read (table ∙ table_absent (unpack a.file.now) predictor_end c.weight_bits-n.result (λ t. true) (omega arith) c.padded-size.result c.padded-size.ensures.0 c.ends_before.result c.ends_before.ensures c.if-ends_before.true))
-
-pub fill_clear-requires : goal.fill_clear-requires
-fill_clear-requires c =
-    let room : predictor_end + c.padded-size.result ≤ length (unpack c.args.file.now) =
-    ltb-false _ _ (sym c.ends_before.ensures ∙ c.if-ends_before.false) in
-    (omega arith, omega arith, omega (arith, room))
 
 pub returns-then-not-fill_clear : goal.returns-then-not-fill_clear
 returns-then-not-fill_clear c =

@@ -1,16 +1,10 @@
--- Each field of the settings is what the definition takes from the numbers; a number less 6 fits.
+-- Each field of the settings is what the definition takes from the numbers.
 use Prim.Native.Nat.{◌+◌}
 use native.Mathlib.Omega.{arith}
 use Rattle.header.specs.Places.{◌‼◌, prediction_bands, prediction_mode, local_sum_type, weight_resolution, initial_exponent, final_exponent, weight_method, weight_table_flag}
 use Rattle.header.specs.Parts.{is_one, predictor_of}
 use Rattle.header.proofs.Signs.{lowered}
 use Rattle.header_values.proofs.parts.predictor_of.Goals as goal
-
-pub overflow_sub-result : goal.overflow_sub-result
-overflow_sub-result c = (lowered (c.args.v ‼ initial_exponent) (omega arith)).fits
-
-pub overflow_sub-result-2 : goal.overflow_sub-result-2
-overflow_sub-result-2 c = (lowered (c.args.v ‼ final_exponent) (omega arith)).fits
 
 pub returns : goal.returns
 unfolding predictor_of
@@ -22,7 +16,7 @@ returns c =
       column = is_one (v ‼ local_sum_type);
       register = c.unwrapped.ensures i;
       resolution = v ‼ weight_resolution + 4;
-      interval = c.power.ensures i;
+      interval = c.power_of.ensures i;
       vmin = (lowered (v ‼ initial_exponent) (omega arith)).is i;
       vmax = (lowered (v ‼ final_exponent) (omega arith)).is i;
       custom = is_one (v ‼ weight_method);

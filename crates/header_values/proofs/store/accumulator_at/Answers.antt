@@ -8,19 +8,17 @@ use mir.Facts.{to_z_pos}
 use mir.Syntax.{w32}
 use Rattle.bitstream.specs.Stream.{unpack}
 use Rattle.header.specs.FieldLaws.{number_take_lt}
-use Rattle.header_values.proofs.StoreLaws.{EntryIn, entry_in}
+use Rattle.header_values.proofs.StoreLaws.{entry_in}
 use Rattle.header_values.proofs.store.accumulator_at.Goals as goal
 
 pub overflow_add-at : goal.overflow_add-at
 overflow_add-at c =
-    let there : EntryIn (unpack c.args.file.now) c.args.s c.args.at c.requires.0 c.args.z =
-    entry_in _ c.args.s c.args.at c.requires.0 c.args.z c.requires.1 c.requires.2 in
+    let there = entry_in _ c.args.s c.args.at c.requires.0 c.args.z c.requires.1 c.requires.2 in
     omega (arith, there.small)
 
 pub number_at-requires : goal.number_at-requires
 number_at-requires c =
-    let there : EntryIn (unpack c.args.file.now) c.args.s c.args.at c.requires.0 c.args.z =
-    entry_in _ c.args.s c.args.at c.requires.0 c.args.z c.requires.1 c.requires.2 in
+    let there = entry_in _ c.args.s c.args.at c.requires.0 c.args.z c.requires.1 c.requires.2 in
     (omega arith, omega arith, omega (arith, there.small), there.room)
 
 pub overflow_cast-result : goal.overflow_cast-result

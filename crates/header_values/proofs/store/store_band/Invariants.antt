@@ -1,11 +1,8 @@
--- Each turn lays the next slot.
-use Prim.Native.Nat.{◌-◌}
+-- Each turn gives the next slot its value.
+use Rattle.std.proofs.Common.{◌≡◌, ℕ, ◌<◌, get_or, pos}
 use Rattle.bitstream.specs.Stream.{unpack}
-use Rattle.header_values.proofs.StoreLaws.{Laying}
+use Rattle.header_values.specs.Storing.{slot_in}
 use Rattle.header_values.proofs.store.store_band.Given as goal
 
 abbrev pub invariant-loop-i : goal.invariant-loop-i
-invariant-loop-i l = Laying (unpack l.file) l.z l.initial.tables l.i l.tables
-
-abbrev pub decreases-loop-i : goal.decreases-loop-i
-decreases-loop-i l = 19 - l.i
+invariant-loop-i l = (k : ℕ) → k < l.i → get_or l.slots k (pos 0) ≡ slot_in (unpack l.file) l.s l.at l.first l.z k

@@ -1,11 +1,7 @@
 -- Each turn lays the next band.
-use Prim.Native.Nat.{◌-◌}
 use Rattle.bitstream.specs.Stream.{unpack}
 use Rattle.header_values.proofs.StoreLaws.{Bands}
 use Rattle.header_values.proofs.store.store_tables.Given as goal
 
 abbrev pub invariant-loop-z : goal.invariant-loop-z
 invariant-loop-z l = Bands (unpack l.file) l.s l.initial.tables l.first l.z l.tables
-
-abbrev pub decreases-loop-z : goal.decreases-loop-z
-decreases-loop-z l = l.bands - l.z

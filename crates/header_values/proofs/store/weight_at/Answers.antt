@@ -1,49 +1,36 @@
 -- The q bits of a weight are there.
-use mathlib.Core.Path.{sym, ap, ◌∙◌, subst}
+use mathlib.Core.Path.{sym, subst}
 use Prim.Native.Nat.{ℕ, ◌+◌, ◌*◌, ◌^◌, ◌<◌}
 use native.Mathlib.Omega.{arith}
 use lib.ListN.{drop}
-use mir.Facts.{to_z-of_z}
-use mir.Syntax.{w32}
-use Rattle.integers.specs.Laws.{ok}
 use Rattle.bitstream.specs.Stream.{unpack}
 use Rattle.header.specs.Parts.{predictor_end}
 use Rattle.header.specs.FieldLaws.{number_take_lt}
-use Rattle.header.specs.Tables.{signed_of}
-use Rattle.header_values.proofs.StoreLaws.{WeightAt, weight_from}
+use Rattle.header_values.proofs.StoreLaws.{weight_from}
 use Rattle.header_values.proofs.store.weight_at.Goals as goal
 
 pub overflow_add-first : goal.overflow_add-first
 overflow_add-first c =
-    let there : WeightAt (unpack c.args.file.now) c.args.s c.args.at c.requires.0 c.args.i c.args.first =
-    weight_from _ c.args.s c.args.at c.requires.0 c.args.z c.args.i c.args.first c.requires.1 c.requires.2 c.requires.3 c.requires.4 in
+    let there = weight_from _ c.args.s c.args.at c.requires.0 c.args.z c.args.i c.args.first c.requires.1 c.requires.2 c.requires.3 c.requires.4 in
     omega (arith, there.few)
 
 pub overflow_mul-q : goal.overflow_mul-q
 overflow_mul-q c =
-    let there : WeightAt (unpack c.args.file.now) c.args.s c.args.at c.requires.0 c.args.i c.args.first =
-    weight_from _ c.args.s c.args.at c.requires.0 c.args.z c.args.i c.args.first c.requires.1 c.requires.2 c.requires.3 c.requires.4 in
+    let there = weight_from _ c.args.s c.args.at c.requires.0 c.args.z c.args.i c.args.first c.requires.1 c.requires.2 c.requires.3 c.requires.4 in
     omega (arith, there.small)
 
 pub overflow_add-q : goal.overflow_add-q
 overflow_add-q c =
-    let there : WeightAt (unpack c.args.file.now) c.args.s c.args.at c.requires.0 c.args.i c.args.first =
-    weight_from _ c.args.s c.args.at c.requires.0 c.args.z c.args.i c.args.first c.requires.1 c.requires.2 c.requires.3 c.requires.4 in
+    let there = weight_from _ c.args.s c.args.at c.requires.0 c.args.z c.args.i c.args.first c.requires.1 c.requires.2 c.requires.3 c.requires.4 in
     omega (arith, there.small)
 
 pub number_at-requires : goal.number_at-requires
 number_at-requires c =
-    let there : WeightAt (unpack c.args.file.now) c.args.s c.args.at c.requires.0 c.args.i c.args.first =
-    weight_from _ c.args.s c.args.at c.requires.0 c.args.z c.args.i c.args.first c.requires.1 c.requires.2 c.requires.3 c.requires.4 in
-    let w = there in (w.least, omega (arith, w.most), omega (arith, w.small), w.room)
+    let there = weight_from _ c.args.s c.args.at c.requires.0 c.args.z c.args.i c.args.first c.requires.1 c.requires.2 c.requires.3 c.requires.4 in
+    (there.least, omega (arith, there.most), omega (arith, there.small), there.room)
 
 pub signed_of-requires : goal.signed_of-requires
 signed_of-requires c =
-    let there : WeightAt (unpack c.args.file.now) c.args.s c.args.at c.requires.0 c.args.i c.args.first =
-    weight_from _ c.args.s c.args.at c.requires.0 c.args.z c.args.i c.args.first c.requires.1 c.requires.2 c.requires.3 c.requires.4 in
+    let there = weight_from _ c.args.s c.args.at c.requires.0 c.args.z c.args.i c.args.first c.requires.1 c.requires.2 c.requires.3 c.requires.4 in
     let a = c.args in
-    let w = there in
-    (w.least, w.most, subst (λ (n : ℕ). n < 2 ^ a.s.predictor.precision) (sym c.number_at.ensures) (number_take_lt a.s.predictor.precision (drop (predictor_end + a.s.predictor.precision * (a.first + a.i)) (unpack a.file.now))))
-
-pub returns : goal.returns
-returns c = to_z-of_z (ok w32 c.signed_of.result c.signed_of.type_inv) ∙ c.signed_of.ensures ∙ ap (signed_of c.args.s.predictor.precision) c.number_at.ensures
+    (there.least, there.most, subst (λ (n : ℕ). n < 2 ^ a.s.predictor.precision) (sym c.number_at.ensures) (number_take_lt a.s.predictor.precision (drop (predictor_end + a.s.predictor.precision * (a.first + a.i)) (unpack a.file.now))))

@@ -13,28 +13,6 @@ use Rattle.predictor.specs.Mapping.{theta, map_residual, mapped_by}
 use Rattle.predictor_steps.proofs.Maps.{map_le, theta_le}
 use Rattle.predictor_steps.proofs.mapping.map_residual.Goals as goal
 
-pub overflow_cast-low : goal.overflow_cast-low
-overflow_cast-low c = search (to_z-of_z, wide)
-
-pub overflow_cast-high : goal.overflow_cast-high
-overflow_cast-high c = search (to_z-of_z, wide)
-
-pub theta-distance-requires : goal.theta-distance-requires
-theta-distance-requires c =
-    let p-is : c.predicted-prediction.result ≡ floor_div c.args.scaled 2 =
-    let f = c.ranges.scaled in simp to_z-of_z at c.predicted-prediction.ensures in
-    let p-size : nat_abs c.predicted-prediction.result ≤ 2 ^ 29 =
-    let t = c.args.scaled in
-    let q = floor_div t 2 in
-    rw p-is (omega (arith, floor t 2 (lit< tt), abs_parts t, abs_parts q, one0 q, one0 t)) in
-    let s = c in
-    let h = p-size in
-    simp (to_z-of_z, c.ranges.low, c.ranges.high, wide c.ranges.low, wide c.ranges.high, ok w64 c.predicted-prediction.result c.predicted-prediction.type_inv)
-    (omega arith)
-
-pub overflow_cast-residual : goal.overflow_cast-residual
-overflow_cast-residual c = search (to_z-of_z, wide)
-
 pub overflow_sub-residual : goal.overflow_sub-residual
 overflow_sub-residual c =
     let p-is : c.predicted-prediction.result ≡ floor_div c.args.scaled 2 =

@@ -9,40 +9,15 @@ use Rattle.integers.proofs.Laws.{zs, sub, abs_parts}
 use Rattle.predictor.specs.Mapping.{theta}
 use Rattle.predictor_steps.proofs.mapping.theta.Goals as goal
 
-pub overflow_sub-prediction : goal.overflow_sub-prediction
-overflow_sub-prediction c =
-    let x_fits : SFits w64 (c.args.prediction -ℤ c.args.low) =
-    omega (zs, sub c.args.prediction c.args.low, abs_parts c.args.prediction, abs_parts c.args.low) in
-    simp (to_z-of_z, c.ranges.prediction, c.ranges.low) x_fits
-
-pub overflow_sub-high : goal.overflow_sub-high
-overflow_sub-high c =
-    let y-fits : SFits w64 (c.args.high -ℤ c.args.prediction) =
-    omega (zs, sub c.args.high c.args.prediction, abs_parts c.args.prediction, abs_parts c.args.high) in
-    simp (to_z-of_z, c.ranges.prediction, c.ranges.high) y-fits
-
-pub returns-then-below-above : goal.returns-then-below-above
+pub returns : goal.returns
 unfolding theta
-returns-then-below-above c =
+returns c =
     let x_fits : SFits w64 (c.args.prediction -ℤ c.args.low) =
     omega (zs, sub c.args.prediction c.args.low, abs_parts c.args.prediction, abs_parts c.args.low) in
     let a-is : c.magnitude-below.result ≡ nat_abs (c.args.prediction -ℤ c.args.low) =
-    let s = c in simp (to_z-of_z, c.ranges.prediction, c.ranges.low, x_fits) at c.magnitude-below.ensures in
+    simp (to_z-of_z, c.ranges.prediction, c.ranges.low, x_fits) at c.magnitude-below.ensures in
     let y-fits : SFits w64 (c.args.high -ℤ c.args.prediction) =
     omega (zs, sub c.args.high c.args.prediction, abs_parts c.args.prediction, abs_parts c.args.high) in
     let b-is : c.magnitude-above.result ≡ nat_abs (c.args.high -ℤ c.args.prediction) =
-    let s = c in simp (to_z-of_z, c.ranges.prediction, c.ranges.high, y-fits) at c.magnitude-above.ensures in
-    omega (arith, a-is, b-is)
-
-pub returns-else-below-above : goal.returns-else-below-above
-unfolding theta
-returns-else-below-above c =
-    let x_fits : SFits w64 (c.args.prediction -ℤ c.args.low) =
-    omega (zs, sub c.args.prediction c.args.low, abs_parts c.args.prediction, abs_parts c.args.low) in
-    let a-is : c.magnitude-below.result ≡ nat_abs (c.args.prediction -ℤ c.args.low) =
-    let s = c in simp (to_z-of_z, c.ranges.prediction, c.ranges.low, x_fits) at c.magnitude-below.ensures in
-    let y-fits : SFits w64 (c.args.high -ℤ c.args.prediction) =
-    omega (zs, sub c.args.high c.args.prediction, abs_parts c.args.prediction, abs_parts c.args.high) in
-    let b-is : c.magnitude-above.result ≡ nat_abs (c.args.high -ℤ c.args.prediction) =
-    let s = c in simp (to_z-of_z, c.ranges.prediction, c.ranges.high, y-fits) at c.magnitude-above.ensures in
-    omega (arith, a-is, b-is)
+    simp (to_z-of_z, c.ranges.prediction, c.ranges.high, y-fits) at c.magnitude-above.ensures in
+    omega (arith, c.min.ensures, a-is, b-is)

@@ -14,24 +14,6 @@ use Rattle.predictor.specs.Mapping.{theta, unmap_residual, unmapped_by}
 use Rattle.predictor_steps.proofs.Maps.{theta_le, unmapped_in}
 use Rattle.predictor_steps.proofs.mapping.unmap_residual.Goals as goal
 
-pub overflow_cast-least : goal.overflow_cast-least
-overflow_cast-least c = simp (to_z-of_z, c.ranges.low) (wide c.ranges.low)
-
-pub overflow_cast-most : goal.overflow_cast-most
-overflow_cast-most c = simp (to_z-of_z, c.ranges.high) (wide c.ranges.high)
-
-pub theta-distance-requires : goal.theta-distance-requires
-theta-distance-requires c =
-    let p-is : c.predicted-prediction.result ≡ floor_div c.args.scaled 2 =
-    let f = c.ranges.scaled in simp to_z-of_z at c.predicted-prediction.ensures in
-    let p-size : nat_abs c.predicted-prediction.result ≤ 2 ^ 30 =
-    let t = c.args.scaled in
-    rw p-is (omega (arith, floor t 2 (lit< tt), abs_parts t, abs_parts (floor_div t 2), c.requires.0.sizes.scaled_small)) in
-    let s = c in
-    let h = p-size in
-    simp (to_z-of_z, c.ranges.low, c.ranges.high, wide c.ranges.low, wide c.ranges.high, ok w64 c.predicted-prediction.result c.predicted-prediction.type_inv)
-    (omega arith)
-
 pub overflow_sub-below : goal.overflow_sub-below
 overflow_sub-below c =
     let p-is : c.predicted-prediction.result ≡ floor_div c.args.scaled 2 =
@@ -46,21 +28,6 @@ overflow_sub-below c =
     let a = c in
     let f = c.ranges.low in
     simp (to_z-of_z, f, wide f, ok w64 c.predicted-prediction.result c.predicted-prediction.type_inv) x_fits
-
-pub overflow_sub-below-2 : goal.overflow_sub-below-2
-overflow_sub-below-2 c =
-    let p-is : c.predicted-prediction.result ≡ floor_div c.args.scaled 2 =
-    let f = c.ranges.scaled in simp to_z-of_z at c.predicted-prediction.ensures in
-    let p-size : nat_abs c.predicted-prediction.result ≤ 2 ^ 30 =
-    let t = c.args.scaled in
-    rw p-is (omega (arith, floor t 2 (lit< tt), abs_parts t, abs_parts (floor_div t 2), c.requires.0.sizes.scaled_small)) in
-    let y-fits : SFits w64 (c.args.high -ℤ c.predicted-prediction.result) =
-    let p = c.predicted-prediction.result in
-    let hi = c.args.high in
-    omega (zs, sub hi p, abs_parts p, abs_parts hi, p-size, c.requires.0.sizes.high_small) in
-    let a = c in
-    let f = c.ranges.high in
-    simp (to_z-of_z, f, wide f, ok w64 c.predicted-prediction.result c.predicted-prediction.type_inv) y-fits
 
 pub unmap_by-residual-requires : goal.unmap_by-residual-requires
 unmap_by-residual-requires c =

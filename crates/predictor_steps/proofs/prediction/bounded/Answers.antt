@@ -10,30 +10,6 @@ use Rattle.predictor_steps.proofs.PredictionFits.{Bounded, bounded_fits}
 use Rattle.predictor_steps.proofs.Sizes.{floor_small}
 use Rattle.predictor_steps.proofs.prediction.bounded.Goals as goal
 
-pub overflow_cast-middle : goal.overflow_cast-middle
-overflow_cast-middle c =
-    let q-is : c.floor_shift-scaled.result ≡ floor_div c.args.value (2 ^ (c.args.resolution + 1)) =
-    let f = c.ranges.value in simp to_z-of_z at c.floor_shift-scaled.ensures in
-    let at : Bounded c.floor_shift-scaled.result c.args.low c.args.middle c.args.high =
-    let s = c in
-    bounded_fits c.floor_shift-scaled.result c.args.low c.args.middle c.args.high
-    (ok w64 c.floor_shift-scaled.result c.floor_shift-scaled.type_inv)
-    c.ranges.low c.ranges.middle c.ranges.high
-    (rw q-is (floor_small c.args.value c.args.resolution c.ranges.value)) in
-    let f = at in simp (to_z-of_z, f.mid32) f.mid64
-
-pub overflow_mul-middle : goal.overflow_mul-middle
-overflow_mul-middle c =
-    let q-is : c.floor_shift-scaled.result ≡ floor_div c.args.value (2 ^ (c.args.resolution + 1)) =
-    let f = c.ranges.value in simp to_z-of_z at c.floor_shift-scaled.ensures in
-    let at : Bounded c.floor_shift-scaled.result c.args.low c.args.middle c.args.high =
-    let s = c in
-    bounded_fits c.floor_shift-scaled.result c.args.low c.args.middle c.args.high
-    (ok w64 c.floor_shift-scaled.result c.floor_shift-scaled.type_inv)
-    c.ranges.low c.ranges.middle c.ranges.high
-    (rw q-is (floor_small c.args.value c.args.resolution c.ranges.value)) in
-    let f = at in simp (to_z-of_z, f.mid32, f.mid64) f.m2
-
 pub overflow_add-scaled : goal.overflow_add-scaled
 overflow_add-scaled c =
     let q-is : c.floor_shift-scaled.result ≡ floor_div c.args.value (2 ^ (c.args.resolution + 1)) =
@@ -57,66 +33,6 @@ overflow_add-scaled-2 c =
     c.ranges.low c.ranges.middle c.ranges.high
     (rw q-is (floor_small c.args.value c.args.resolution c.ranges.value)) in
     let f = at in simp (to_z-of_z, f.mid32, f.mid64, f.m2, f.q64, f.qm) f.qm1
-
-pub overflow_cast-low : goal.overflow_cast-low
-overflow_cast-low c =
-    let q-is : c.floor_shift-scaled.result ≡ floor_div c.args.value (2 ^ (c.args.resolution + 1)) =
-    let f = c.ranges.value in simp to_z-of_z at c.floor_shift-scaled.ensures in
-    let at : Bounded c.floor_shift-scaled.result c.args.low c.args.middle c.args.high =
-    let s = c in
-    bounded_fits c.floor_shift-scaled.result c.args.low c.args.middle c.args.high
-    (ok w64 c.floor_shift-scaled.result c.floor_shift-scaled.type_inv)
-    c.ranges.low c.ranges.middle c.ranges.high
-    (rw q-is (floor_small c.args.value c.args.resolution c.ranges.value)) in
-    let f = at in simp (to_z-of_z, f.low32) f.low64
-
-pub overflow_mul-low : goal.overflow_mul-low
-overflow_mul-low c =
-    let q-is : c.floor_shift-scaled.result ≡ floor_div c.args.value (2 ^ (c.args.resolution + 1)) =
-    let f = c.ranges.value in simp to_z-of_z at c.floor_shift-scaled.ensures in
-    let at : Bounded c.floor_shift-scaled.result c.args.low c.args.middle c.args.high =
-    let s = c in
-    bounded_fits c.floor_shift-scaled.result c.args.low c.args.middle c.args.high
-    (ok w64 c.floor_shift-scaled.result c.floor_shift-scaled.type_inv)
-    c.ranges.low c.ranges.middle c.ranges.high
-    (rw q-is (floor_small c.args.value c.args.resolution c.ranges.value)) in
-    let f = at in simp (to_z-of_z, f.low32, f.low64) f.l2
-
-pub overflow_cast-high : goal.overflow_cast-high
-overflow_cast-high c =
-    let q-is : c.floor_shift-scaled.result ≡ floor_div c.args.value (2 ^ (c.args.resolution + 1)) =
-    let f = c.ranges.value in simp to_z-of_z at c.floor_shift-scaled.ensures in
-    let at : Bounded c.floor_shift-scaled.result c.args.low c.args.middle c.args.high =
-    let s = c in
-    bounded_fits c.floor_shift-scaled.result c.args.low c.args.middle c.args.high
-    (ok w64 c.floor_shift-scaled.result c.floor_shift-scaled.type_inv)
-    c.ranges.low c.ranges.middle c.ranges.high
-    (rw q-is (floor_small c.args.value c.args.resolution c.ranges.value)) in
-    let f = at in simp (to_z-of_z, f.high32) f.high64
-
-pub overflow_mul-high : goal.overflow_mul-high
-overflow_mul-high c =
-    let q-is : c.floor_shift-scaled.result ≡ floor_div c.args.value (2 ^ (c.args.resolution + 1)) =
-    let f = c.ranges.value in simp to_z-of_z at c.floor_shift-scaled.ensures in
-    let at : Bounded c.floor_shift-scaled.result c.args.low c.args.middle c.args.high =
-    let s = c in
-    bounded_fits c.floor_shift-scaled.result c.args.low c.args.middle c.args.high
-    (ok w64 c.floor_shift-scaled.result c.floor_shift-scaled.type_inv)
-    c.ranges.low c.ranges.middle c.ranges.high
-    (rw q-is (floor_small c.args.value c.args.resolution c.ranges.value)) in
-    let f = at in simp (to_z-of_z, f.high32, f.high64) f.h2
-
-pub overflow_add-high : goal.overflow_add-high
-overflow_add-high c =
-    let q-is : c.floor_shift-scaled.result ≡ floor_div c.args.value (2 ^ (c.args.resolution + 1)) =
-    let f = c.ranges.value in simp to_z-of_z at c.floor_shift-scaled.ensures in
-    let at : Bounded c.floor_shift-scaled.result c.args.low c.args.middle c.args.high =
-    let s = c in
-    bounded_fits c.floor_shift-scaled.result c.args.low c.args.middle c.args.high
-    (ok w64 c.floor_shift-scaled.result c.floor_shift-scaled.type_inv)
-    c.ranges.low c.ranges.middle c.ranges.high
-    (rw q-is (floor_small c.args.value c.args.resolution c.ranges.value)) in
-    let f = at in simp (to_z-of_z, f.high32, f.high64, f.h2) f.h21
 
 pub returns : goal.returns
 returns c =

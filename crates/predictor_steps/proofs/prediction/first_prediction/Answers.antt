@@ -7,15 +7,12 @@ use lib.IntN.{pos}
 use mir.Syntax.{w32}
 use mir.Facts.{to_z-of_z}
 use Rattle.integers.specs.Laws.{ok}
-use Rattle.predictor.specs.Inputs.{area, area_small}
+use Rattle.predictor.specs.Inputs.{area}
 use Rattle.predictor_steps.proofs.Firsts.{before_in, first_behind, first_none, first_band}
 use Rattle.predictor_steps.proofs.PredictionFits.{Twice, twice_fits}
 use borrow.Author.Tests.{lt-ltb, le-ltb}
 use Rattle.predictor_steps.proofs.prediction.first_prediction.Goals as goal
 use Rattle.predictor_steps.proofs.prediction.first_prediction.Goals.{else-z-gt0-via-then-z-gt0+else-s-gt0, else-z-gt0-via-else-z-gt0}
-
-pub overflow_mul-area : goal.overflow_mul-area
-overflow_mul-area c = let h = area_small c.requires.given in omega arith
 
 pub overflow_mul-at : goal.overflow_mul-at
 overflow_mul-at c =
@@ -35,18 +32,6 @@ bounds-image-at c =
     before_in c.requires c.if-z-gt0.true in
     inside-before
 
-pub overflow_cast-result : goal.overflow_cast-result
-overflow_cast-result c =
-    let before-fits : let a = c.args in Twice (get_or a.image.now ((a.z - 1) * area a.s) (pos 0)) =
-    twice_fits _ (ok w32 _ c.result-1.given) in
-    search (to_z-of_z, before-fits)
-
-pub overflow_mul-result : goal.overflow_mul-result
-overflow_mul-result c =
-    let before-fits : let a = c.args in Twice (get_or a.image.now ((a.z - 1) * area a.s) (pos 0)) =
-    twice_fits _ (ok w32 _ c.result-1.given) in
-    search (to_z-of_z, before-fits)
-
 pub returns-then-s-gt0 : goal.returns-then-s-gt0
 returns-then-s-gt0 c =
     let before-fits : let a = c.args in Twice (get_or a.image.now ((a.z - 1) * area a.s) (pos 0)) =
@@ -55,18 +40,6 @@ returns-then-s-gt0 c =
     let f = before-fits in
     simp (to_z-of_z, f.x_32, f.x_64, f.r)
     (sym (first_behind c.requires c.if-z-gt0.true (lt-ltb _ _ (omega arith))))
-
-pub overflow_cast-result-2 : goal.overflow_cast-result-2
-overflow_cast-result-2 c =
-    let middle_fits : Twice c.args.middle =
-    twice_fits c.args.middle c.ranges.middle in
-    search (to_z-of_z, middle_fits)
-
-pub overflow_mul-result-2 : goal.overflow_mul-result-2
-overflow_mul-result-2 c =
-    let middle_fits : Twice c.args.middle =
-    twice_fits c.args.middle c.ranges.middle in
-    search (to_z-of_z, middle_fits)
 
 pub returns : goal.returns
 returns c =

@@ -8,33 +8,6 @@ use Rattle.predictor_steps.proofs.PredictionFits.{Offset, offset_fits}
 use Rattle.predictor_steps.proofs.Sizes.{power_small}
 use Rattle.predictor_steps.proofs.prediction.offset.Goals as goal
 
-pub overflow_cast-result : goal.overflow_cast-result
-overflow_cast-result c =
-    let at : Offset c.args.sum c.args.middle c.power.result =
-    let s = c in
-    offset_fits c.args.sum c.args.middle c.power.result c.ranges.middle c.ranges.sum
-    (ok w64 c.power.result c.power.type_inv)
-    c.requires.0 c.requires.1 (power_small c.args.resolution 19 c.power.result c.requires.2 c.power.ensures) in
-    let f = at in simp (to_z-of_z, f.mid32) f.mid64
-
-pub overflow_mul-result : goal.overflow_mul-result
-overflow_mul-result c =
-    let at : Offset c.args.sum c.args.middle c.power.result =
-    let s = c in
-    offset_fits c.args.sum c.args.middle c.power.result c.ranges.middle c.ranges.sum
-    (ok w64 c.power.result c.power.type_inv)
-    c.requires.0 c.requires.1 (power_small c.args.resolution 19 c.power.result c.requires.2 c.power.ensures) in
-    let f = at in simp (to_z-of_z, f.mid32, f.mid64) f.m
-
-pub overflow_sub-result : goal.overflow_sub-result
-overflow_sub-result c =
-    let at : Offset c.args.sum c.args.middle c.power.result =
-    let s = c in
-    offset_fits c.args.sum c.args.middle c.power.result c.ranges.middle c.ranges.sum
-    (ok w64 c.power.result c.power.type_inv)
-    c.requires.0 c.requires.1 (power_small c.args.resolution 19 c.power.result c.requires.2 c.power.ensures) in
-    let f = at in simp (to_z-of_z, f.mid32, f.mid64, f.m, f.s64) f.d
-
 pub overflow_mul-result-2 : goal.overflow_mul-result-2
 overflow_mul-result-2 c =
     let at : Offset c.args.sum c.args.middle c.power.result =

@@ -13,23 +13,6 @@ use Rattle.predictor_steps.proofs.Sizes.{power_small}
 use Rattle.predictor_steps.proofs.WeightFits.{Custom, custom_fits}
 use Rattle.predictor_steps.proofs.weights.custom_weight.Goals as goal
 
-pub overflow_cast-result : goal.overflow_cast-result
-overflow_cast-result c =
-    let e-in : c.args.resolution + 3 - c.args.precision ≤ 22 =
-    let s = c in omega (arith, c.requires.0) in
-    let half_in : c.half_less-half.result ≤ 2 ^ 22 =
-    let s = c in
-    let m : 2 ^ (c.args.resolution + 3 - c.args.precision) ≤ 2 ^ 22 = pow_mono e-in in
-    let e = c.half_less-half.ensures in
-    omega arith in
-    let at : Custom c.power-step.result c.args.value c.half_less-half.result =
-    let s = c in
-    custom_fits c.power-step.result c.args.value c.half_less-half.result c.ranges.value
-    (ok w64 c.power-step.result c.power-step.type_inv)
-    (power_small (c.args.resolution + 3 - c.args.precision) 22 c.power-step.result e-in c.power-step.ensures)
-    half_in in
-    let f = at in simp (to_z-of_z, f.l_32) f.l_64
-
 pub overflow_mul-result : goal.overflow_mul-result
 overflow_mul-result c =
     let e-in : c.args.resolution + 3 - c.args.precision ≤ 22 =

@@ -35,29 +35,6 @@ module _ (t nx interval_log : ℕ) (vmin vmax : ℤ) (depth resolution : ℕ) (s
   diff-fits : SFits w64 (pos t -ℤ pos nx)
   diff-fits = sz_fits diff-size tt
 
-pub overflow_sub-t : goal.overflow_sub-t
-overflow_sub-t c = rw (t-pos c.args.t c.args.nx c.args.interval_log c.args.vmin c.args.vmax c.args.depth c.args.resolution c.requires, n_pos c.args.t c.args.nx c.args.interval_log c.args.vmin c.args.vmax c.args.depth c.args.resolution c.requires) (diff-fits c.args.t c.args.nx c.args.interval_log c.args.vmin c.args.vmax c.args.depth c.args.resolution c.requires)
-
-pub overflow_cast-vmin : goal.overflow_cast-vmin
-overflow_cast-vmin c = let s = c in simp (to_z-of_z, c.ranges.vmin) (wide c.ranges.vmin)
-
-pub overflow_add-vmin : goal.overflow_add-vmin
-overflow_add-vmin c =
-    let q-is : c.floor_shift-turns.result ≡ floor_div (pos c.args.t -ℤ pos c.args.nx) (2 ^ c.args.interval_log) =
-    let s = c in simp (to_z-of_z, diff-fits c.args.t c.args.nx c.args.interval_log c.args.vmin c.args.vmax c.args.depth c.args.resolution c.requires) at (rw (t-pos c.args.t c.args.nx c.args.interval_log c.args.vmin c.args.vmax c.args.depth c.args.resolution c.requires, n_pos c.args.t c.args.nx c.args.interval_log c.args.vmin c.args.vmax c.args.depth c.args.resolution c.requires) at c.floor_shift-turns.ensures) in
-    let q-size : Sz (2 * most_samples) c.floor_shift-turns.result =
-    rw q-is (sz_floor (2 ^ c.args.interval_log) (pow_pos c.args.interval_log) (diff-size c.args.t c.args.nx c.args.interval_log c.args.vmin c.args.vmax c.args.depth c.args.resolution c.requires)) in
-    let sum_fits : SFits w64 (c.args.vmin +ℤ c.floor_shift-turns.result) =
-    sz_fits (sz_add (sz_abs c.args.vmin c.requires.vmin_small) q-size) tt in
-    let s = c in
-    simp (to_z-of_z, c.ranges.vmin, wide c.ranges.vmin, ok w64 c.floor_shift-turns.result c.floor_shift-turns.type_inv) sum_fits
-
-pub overflow_cast-vmin-2 : goal.overflow_cast-vmin-2
-overflow_cast-vmin-2 c = let s = c in simp (to_z-of_z, c.ranges.vmin) (wide c.ranges.vmin)
-
-pub overflow_cast-vmax : goal.overflow_cast-vmax
-overflow_cast-vmax c = let s = c in simp (to_z-of_z, c.ranges.vmax) (wide c.ranges.vmax)
-
 pub overflow_add-result : goal.overflow_add-result
 overflow_add-result c =
     let q-is : c.floor_shift-turns.result ≡ floor_div (pos c.args.t -ℤ pos c.args.nx) (2 ^ c.args.interval_log) =

@@ -1,7 +1,6 @@
 -- `predictor_steps::weights::gain` meets its contract: each sign of the exponent is one shift, of a sum or of a product that fits.
 use mathlib.Core.Path.{◌≡◌}
 use Prim.Native.Nat.{◌+◌, ◌^◌, ◌≤◌}
-use native.Mathlib.Omega.{arith}
 use lib.IntN.{pos, nat_abs, ◌+ℤ◌, ◌-ℤ◌, ◌*ℤ◌}
 use mir.Syntax.{w32, w64}
 use mir.Val.{SFits}
@@ -10,58 +9,6 @@ use Rattle.integers.proofs.Laws.{P, N, zs, ok, add, sub, abs_parts, shr_floor, f
 use Rattle.predictor_steps.proofs.Gains.{gain_right, gain_left}
 use Rattle.predictor_steps.proofs.WeightFits.{sum_fits, product_small, turned_small}
 use Rattle.predictor_steps.proofs.weights.gain.Goals as goal
-
-pub overflow_cast-shift : goal.overflow_cast-shift
-overflow_cast-shift c =
-    let s = c in
-    let f = c.ranges.rho in
-    let t = simp to_z-of_z at c.if-rho-ge0.true in
-    simp to_z-of_z (omega zs, omega arith)
-
-pub power-requires : goal.power-requires
-power-requires c = let f = c.ranges.rho in simp to_z-of_z (omega arith)
-
-pub overflow_add-result : goal.overflow_add-result
-overflow_add-result c =
-    let p-is : c.power.result ≡ pos (2 ^ nat_abs c.args.rho) =
-    let f = c.ranges.rho in simp to_z-of_z at c.power.ensures in
-    let s = c in
-    simp (to_z-of_z, c.ranges.v, ok w64 c.power.result c.power.type_inv)
-    (sum_fits c.args.v c.power.result (nat_abs c.args.rho) c.requires.0 c.requires.1 p-is)
-
-pub overflow_add-result-then-rho-ge0 : goal.overflow_add-result-then-rho-ge0
-overflow_add-result-then-rho-ge0 c = let f = c.ranges.rho in simp to_z-of_z (omega arith)
-
-pub overflow_cast-result : goal.overflow_cast-result
-overflow_cast-result c = let f = c.ranges.rho in simp to_z-of_z (omega arith)
-
-pub overflow_shr-result : goal.overflow_shr-result
-overflow_shr-result c = let f = c.ranges.rho in simp to_z-of_z (omega arith)
-
-pub overflow_sub-shift : goal.overflow_sub-shift
-overflow_sub-shift c =
-    let s = c in
-    let f = c.ranges.rho in
-    simp to_z-of_z (omega (zs, sub (pos 0) c.args.rho, abs_parts c.args.rho))
-
-pub overflow_cast-shift-else-rho-ge0 : goal.overflow_cast-shift-else-rho-ge0
-overflow_cast-shift-else-rho-ge0 c =
-    let s = c in
-    let rho = c.args.rho in
-    let f = c.ranges.rho in
-    let t = simp to_z-of_z at c.if-rho-ge0.false in
-    let m = pos 0 -ℤ rho in
-    let g : SFits w32 m = omega (zs, sub (pos 0) rho, abs_parts rho) in
-    simp to_z-of_z (omega (zs, sub (pos 0) rho), omega (zs, sub (pos 0) rho, abs_parts rho, abs_parts m))
-
-pub power-requires-else-rho-ge0 : goal.power-requires-else-rho-ge0
-power-requires-else-rho-ge0 c =
-    let s = c in
-    let rho = c.args.rho in
-    let f = c.ranges.rho in
-    let m = pos 0 -ℤ rho in
-    let g : SFits w32 m = omega (zs, sub (pos 0) rho, abs_parts rho) in
-    simp to_z-of_z (omega (zs, sub (pos 0) rho, abs_parts rho, abs_parts m))
 
 pub overflow_mul-result : goal.overflow_mul-result
 overflow_mul-result c =

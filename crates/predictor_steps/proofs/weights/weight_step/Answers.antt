@@ -15,38 +15,6 @@ use Rattle.predictor_steps.proofs.Sizes.{power_small, oriented_small, gain_small
 use Rattle.predictor_steps.proofs.WeightFits.{Step, step_fits}
 use Rattle.predictor_steps.proofs.weights.weight_step.Goals as goal
 
-pub overflow_cast-u : goal.overflow_cast-u
-overflow_cast-u c = simp (to_z-of_z, c.ranges.u) (wide c.ranges.u)
-
-pub oriented-turned-requires : goal.oriented-turned-requires
-oriented-turned-requires c = simp (to_z-of_z, c.ranges.u, wide c.ranges.u) (omega (arith, c.requires.1))
-
-pub gain-step-requires : goal.gain-step-requires
-gain-step-requires c =
-    let v-is : c.oriented-turned.result ≡ oriented c.args.up c.args.u =
-    let f = c.ranges.u in simp (to_z-of_z, f, wide f) at c.oriented-turned.ensures in
-    let v-small : nat_abs c.oriented-turned.result ≤ 2 ^ 19 =
-    oriented_small c.args.up c.args.u c.oriented-turned.result v-is c.requires.1 in
-    let o = c.oriented-turned in simp (to_z-of_z, c.ranges.rho, ok w64 o.result o.type_inv) (v-small, c.requires.2)
-
-pub overflow_cast-w : goal.overflow_cast-w
-overflow_cast-w c =
-    let v-is : c.oriented-turned.result ≡ oriented c.args.up c.args.u =
-    let f = c.ranges.u in simp (to_z-of_z, f, wide f) at c.oriented-turned.ensures in
-    let v-small : nat_abs c.oriented-turned.result ≤ 2 ^ 19 =
-    oriented_small c.args.up c.args.u c.oriented-turned.result v-is c.requires.1 in
-    let g_is : c.gain-step.result ≡ gain c.args.rho c.oriented-turned.result =
-    let o = c.oriented-turned in simp (to_z-of_z, c.ranges.rho, ok w64 o.result o.type_inv) at c.gain-step.ensures in
-    let at : Step c.args.w c.gain-step.result c.power-top.result =
-    let s = c in
-    let g = c.gain-step in
-    let o : c.args.resolution + 2 ≤ 21 = omega (arith, c.requires.3) in
-    step_fits c.args.w g.result c.power-top.result c.ranges.w (ok w64 g.result g.type_inv)
-    (ok w64 c.power-top.result c.power-top.type_inv)
-    (rw g_is (gain_small c.args.rho c.oriented-turned.result v-small c.requires.2))
-    (power_small (c.args.resolution + 2) 21 c.power-top.result o c.power-top.ensures) in
-    let f = at in simp (to_z-of_z, f.w_32) f.w_64
-
 pub overflow_add-w : goal.overflow_add-w
 overflow_add-w c =
     let v-is : c.oriented-turned.result ≡ oriented c.args.up c.args.u =
@@ -64,42 +32,6 @@ overflow_add-w c =
     (rw g_is (gain_small c.args.rho c.oriented-turned.result v-small c.requires.2))
     (power_small (c.args.resolution + 2) 21 c.power-top.result o c.power-top.ensures) in
     let f = at in simp (to_z-of_z, f.w_32, f.w_64, f.g_64) f.wg
-
-pub overflow_sub-top : goal.overflow_sub-top
-overflow_sub-top c =
-    let v-is : c.oriented-turned.result ≡ oriented c.args.up c.args.u =
-    let f = c.ranges.u in simp (to_z-of_z, f, wide f) at c.oriented-turned.ensures in
-    let v-small : nat_abs c.oriented-turned.result ≤ 2 ^ 19 =
-    oriented_small c.args.up c.args.u c.oriented-turned.result v-is c.requires.1 in
-    let g_is : c.gain-step.result ≡ gain c.args.rho c.oriented-turned.result =
-    let o = c.oriented-turned in simp (to_z-of_z, c.ranges.rho, ok w64 o.result o.type_inv) at c.gain-step.ensures in
-    let at : Step c.args.w c.gain-step.result c.power-top.result =
-    let s = c in
-    let g = c.gain-step in
-    let o : c.args.resolution + 2 ≤ 21 = omega (arith, c.requires.3) in
-    step_fits c.args.w g.result c.power-top.result c.ranges.w (ok w64 g.result g.type_inv)
-    (ok w64 c.power-top.result c.power-top.type_inv)
-    (rw g_is (gain_small c.args.rho c.oriented-turned.result v-small c.requires.2))
-    (power_small (c.args.resolution + 2) 21 c.power-top.result o c.power-top.ensures) in
-    let f = at in simp (to_z-of_z, f.p_64) f.np
-
-pub overflow_sub-top-2 : goal.overflow_sub-top-2
-overflow_sub-top-2 c =
-    let v-is : c.oriented-turned.result ≡ oriented c.args.up c.args.u =
-    let f = c.ranges.u in simp (to_z-of_z, f, wide f) at c.oriented-turned.ensures in
-    let v-small : nat_abs c.oriented-turned.result ≤ 2 ^ 19 =
-    oriented_small c.args.up c.args.u c.oriented-turned.result v-is c.requires.1 in
-    let g_is : c.gain-step.result ≡ gain c.args.rho c.oriented-turned.result =
-    let o = c.oriented-turned in simp (to_z-of_z, c.ranges.rho, ok w64 o.result o.type_inv) at c.gain-step.ensures in
-    let at : Step c.args.w c.gain-step.result c.power-top.result =
-    let s = c in
-    let g = c.gain-step in
-    let o : c.args.resolution + 2 ≤ 21 = omega (arith, c.requires.3) in
-    step_fits c.args.w g.result c.power-top.result c.ranges.w (ok w64 g.result g.type_inv)
-    (ok w64 c.power-top.result c.power-top.type_inv)
-    (rw g_is (gain_small c.args.rho c.oriented-turned.result v-small c.requires.2))
-    (power_small (c.args.resolution + 2) 21 c.power-top.result o c.power-top.ensures) in
-    let f = at in simp (to_z-of_z, f.p_64) f.p1
 
 pub overflow_cast-result : goal.overflow_cast-result
 unfolding weight_step

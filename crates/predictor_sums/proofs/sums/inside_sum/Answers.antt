@@ -1,49 +1,7 @@
 -- `predictor_sums::sums::inside_sum` meets its contract: every number on the way fits.
-use mir.Facts.{to_z-of_z}
+use Rattle.std.proofs.Common.{to_z-of_z}
 use Rattle.predictor_sums.proofs.SumFits.{Inside, inside_fits}
 use Rattle.predictor_sums.proofs.sums.inside_sum.Goals as goal
-
-pub overflow_cast-result : goal.overflow_cast-result
-overflow_cast-result c =
-    let at : Inside c.args.west c.args.corner c.args.north c.args.east =
-    inside_fits c.args.west c.args.corner c.args.north c.args.east c.ranges.west c.ranges.corner c.ranges.north
-    c.ranges.east in
-    search (to_z-of_z, at)
-
-pub overflow_cast-result-2 : goal.overflow_cast-result-2
-overflow_cast-result-2 c =
-    let at : Inside c.args.west c.args.corner c.args.north c.args.east =
-    inside_fits c.args.west c.args.corner c.args.north c.args.east c.ranges.west c.ranges.corner c.ranges.north
-    c.ranges.east in
-    search (to_z-of_z, at)
-
-pub overflow_add-result : goal.overflow_add-result
-overflow_add-result c =
-    let at : Inside c.args.west c.args.corner c.args.north c.args.east =
-    inside_fits c.args.west c.args.corner c.args.north c.args.east c.ranges.west c.ranges.corner c.ranges.north
-    c.ranges.east in
-    search (to_z-of_z, at)
-
-pub overflow_cast-result-3 : goal.overflow_cast-result-3
-overflow_cast-result-3 c =
-    let at : Inside c.args.west c.args.corner c.args.north c.args.east =
-    inside_fits c.args.west c.args.corner c.args.north c.args.east c.ranges.west c.ranges.corner c.ranges.north
-    c.ranges.east in
-    search (to_z-of_z, at)
-
-pub overflow_add-result-2 : goal.overflow_add-result-2
-overflow_add-result-2 c =
-    let at : Inside c.args.west c.args.corner c.args.north c.args.east =
-    inside_fits c.args.west c.args.corner c.args.north c.args.east c.ranges.west c.ranges.corner c.ranges.north
-    c.ranges.east in
-    search (to_z-of_z, at)
-
-pub overflow_cast-result-4 : goal.overflow_cast-result-4
-overflow_cast-result-4 c =
-    let at : Inside c.args.west c.args.corner c.args.north c.args.east =
-    inside_fits c.args.west c.args.corner c.args.north c.args.east c.ranges.west c.ranges.corner c.ranges.north
-    c.ranges.east in
-    search (to_z-of_z, at)
 
 pub overflow_add-result-3 : goal.overflow_add-result-3
 overflow_add-result-3 c =

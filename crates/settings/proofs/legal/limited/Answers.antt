@@ -1,13 +1,7 @@
 -- The sizes are tested first where the whole product need not fit, so each answer is the definition's.
-use mathlib.Core.Path.{sym}
-use native.Mathlib.Nat.{mul-le-mul}
-use native.Mathlib.Omega.{arith}
-use mir.Facts.{Fits-le, Fits-lit}
-use Rattle.settings.specs.LegalLaws.{area_fits, bands_pass, no_bands, area_passes, by_samples}
+use Rattle.std.proofs.Common.{sym, arith}
+use Rattle.settings.specs.LegalLaws.{bands_pass, no_bands, area_passes, by_samples}
 use Rattle.settings.proofs.legal.limited.Goals as goal
-
-pub overflow_mul-area : goal.overflow_mul-area
-overflow_mul-area c = record { fits = area_fits (omega arith) (omega arith) }
 
 pub returns-then-bands-gt-MOST_BANDS : goal.returns-then-bands-gt-MOST_BANDS
 returns-then-bands-gt-MOST_BANDS c = sym (bands_pass c.args.i (omega arith))
@@ -17,9 +11,6 @@ returns-then-bands-eq0 c = sym (no_bands c.args.i (omega arith))
 
 pub returns-then-area-gt-MOST_SAMPLES : goal.returns-then-area-gt-MOST_SAMPLES
 returns-then-area-gt-MOST_SAMPLES c = sym (area_passes c.args.i (omega arith) (omega arith) (omega arith))
-
-pub overflow_mul-result : goal.overflow_mul-result
-overflow_mul-result c = Fits-le (mul-le-mul c.if-area-gt-MOST_SAMPLES.false c.if-bands-gt-MOST_BANDS.false) (Fits-lit tt)
 
 pub returns : goal.returns
 returns c = sym (by_samples c.args.i (omega arith))

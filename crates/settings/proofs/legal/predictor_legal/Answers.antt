@@ -1,15 +1,14 @@
 -- The chain of tests is the definition's, link by link; sums are formed at 64 bits, where they fit.
-use mir.Facts.{to_z-of_z}
-use mir.Syntax.{w32}
-use mir.Val.{SFits}
-use borrow.Author.Rules.{sfits_of}
+use Rattle.std.proofs.Common.{rules}
 use Rattle.settings.specs.Legal.{predictor_legal}
+use Rattle.settings.proofs.Ranges.{tested}
 use Rattle.settings.proofs.legal.predictor_legal.Goals as goal
 
 pub returns : goal.returns
 unfolding predictor_legal
-returns c =
-    let p = c.args.p in
-    let least : SFits w32 p.vmin = sfits_of c.struct_told-3-1.given.1.1.1.1.1.1.0.1 in
-    let most : SFits w32 p.vmax = sfits_of c.struct_told-3-1.given.1.1.1.1.1.1.1.0.1 in
-    rw (to_z-of_z least, to_z-of_z most, c.larger-least.ensures, c.between.ensures, c.interval_legal.ensures)
+returns c = rw (
+  tested c.args.p.resolution c.new.ensures.start c.new.ensures.end c.new.ensures.exhausted c.contains.ensures.value,
+  tested c.args.p.register c.new-2.ensures.start c.new-2.ensures.end c.new-2.ensures.exhausted c.contains-2.ensures.value,
+  c.max-least.ensures,
+  c.interval_legal.ensures,
+) (search rules)

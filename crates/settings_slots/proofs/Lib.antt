@@ -1,3 +1,0 @@
--- Pure lemmas behind the functions' proofs.
-pub mod Stores
-pub mod Fields
