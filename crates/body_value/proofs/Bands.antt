@@ -28,7 +28,7 @@ module _ {P : Plan} {tables l : List ℤ} {z : ℕ} (b : Startable P tables l z)
   S = P.settings
 
   few : n ≤ 18
-  few = let h = components_fit S.predictor z (legal b.plan).predictor.bands_most in omega arith
+  few = let h = components_fit S.predictor z (legal P).predictor.bands_most in omega arith
 
   pub prefix_in : n ≤ length l
   prefix_in = let h = few in let m = b.long in omega arith
@@ -59,11 +59,11 @@ module _ {P : Plan} {tables l : List ℤ} {z : ℕ} (b : Startable P tables l z)
     behind_long = rw (length-take, length-drop, x_long) (omega arith)
 
     first_tame : Tame S.image.depth S.coder.rescaling s
-    first_tame = rw es (initial_tame S tables z (record { rescaled = (legal b.plan).coder.rescaling_above; parameter_fits = parameter_fits b.begins }))
+    first_tame = rw es (initial_tame S tables z (record { rescaled = (legal P).coder.rescaling_above; parameter_fits = parameter_fits b.begins }))
 
     pub keeping : Keeping (take 14 (drop 18 (ws ++ drop n l))) s
     keeping =
-        let c = counted (legal b.plan).image.depth_most (rescaling_fits (legal b.plan).coder) first_tame in
+        let c = counted (legal P).image.depth_most (rescaling_fits (legal P).coder) first_tame in
         record { long = behind_long; count_fits = let m = c.count_most in omega arith; accumulator_fits = let m = c.accumulator_most in omega arith }
 
     module _ (l' : List ℤ) (el : l' ≡ set (set (take 14 (drop 18 (ws ++ drop n l))) 0 (pos s.count)) 1 (pos s.accumulator)) (n' : length l' ≡ 14) where
@@ -79,7 +79,7 @@ module _ {P : Plan} {tables l : List ℤ} {z : ℕ} (b : Startable P tables l z)
       unfolding weights_at statistics_at
       started =
           let Ω = S.predictor.resolution in
-          let fine : Ω + 2 ≤ 21 = omega (arith, (legal b.plan).predictor.resolution_most) in
+          let fine : Ω + 2 ≤ 21 = omega (arith, (legal P).predictor.resolution_most) in
           let wide : 2 ^ (Ω + 2) ≤ 2 ^ 21 = pow_mono fine in
           record {
             fits = record {
@@ -87,7 +87,7 @@ module _ {P : Plan} {tables l : List ℤ} {z : ℕ} (b : Startable P tables l z)
               weights = record {
                 long = length-take-le 18 (put_mid 18 14 x l') (let m = mid_long l' n' x x_long in omega arith);
                 small = rw ws_are (each_map (InWeights Ω) (Size (2 ^ 21)) (λ w k. let m = weight_size Ω w k in omega arith) (initial_weights S tables z)
-                    (initial_weights_range S tables z (legal b.plan) (legal_tables S tables b.begins.tables_legal_lem z b.begins.band_in)));
+                    (initial_weights_range S tables z (legal P) (legal_tables S tables b.begins.tables_legal_lem z b.begins.band_in)));
               };
               counts = rw (mid_behind l' n' x x_long, el) (with_counts (take 14 (drop 18 x)) s behind_long S first_tame);
             };

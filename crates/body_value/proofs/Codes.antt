@@ -16,7 +16,6 @@ use Rattle.coder.specs.Encoding.{encode, decode}
 use Rattle.coder.specs.EncodingLaws.{encode_decode}
 use Rattle.coder.specs.Asks.{most_rescaling, rescaling_fits, Counted, Putting, Getting}
 use Rattle.body_value.specs.declared.plan.Plan.{Plan}
-use Rattle.body_value.specs.Plan.{Planned}
 use Rattle.body_value.specs.Coder.{statistics_in, Counts, Keeping, Coding, Coded, Decoding, Found, Decoded}
 use Rattle.bitstream.specs.declared.read.Unread.{Unread}
 use Rattle.body_value.proofs.Plans.{legal}
@@ -96,7 +95,7 @@ module _ (S : Settings) (s : Statistics) (l : List Bool) where
 
 -- ---- the step of the statistics, both ways
 
-module _ {P : Plan} {l : List ℤ} (plan : Planned P) (fit : Counts P.settings l) {old : Statistics} (eo : old ≡ statistics_in l) where
+module _ (P : Plan) {l : List ℤ} (fit : Counts P.settings l) {old : Statistics} (eo : old ≡ statistics_in l) where
   abbrev S : Settings
   S = P.settings
 
@@ -104,21 +103,21 @@ module _ {P : Plan} {l : List ℤ} (plan : Planned P) (fit : Counts P.settings l
   old_tame = rw eo fit.tame
 
   pub old_counted : Counted old
-  old_counted = counted (legal plan).image.depth_most (rescaling_fits (legal plan).coder) old_tame
+  old_counted = counted (legal P).image.depth_most (rescaling_fits (legal P).coder) old_tame
 
   module _ {δ : ℕ} (h : δ < 2 ^ P.settings.image.depth) where
     pub counting : Counted old × (δ < 2 ^ 16) × (P.settings.coder.rescaling ≤ most_rescaling)
     counting =
-        let p : 2 ^ S.image.depth ≤ 2 ^ 16 = pow_mono (legal plan).image.depth_most in
-        (old_counted, omega arith, rescaling_fits (legal plan).coder)
+        let p : 2 ^ S.image.depth ≤ 2 ^ 16 = pow_mono (legal P).image.depth_most in
+        (old_counted, omega arith, rescaling_fits (legal P).coder)
 
     module _ {new : Statistics} (en : new ≡ next_statistics P.settings.coder.rescaling δ old) where
       new_tame : Tame S.image.depth S.coder.rescaling new
-      new_tame = let g = (legal plan).coder.rescaling_least in rw en (next_tame S.image.depth S.coder.rescaling δ old (omega arith) h old_tame)
+      new_tame = let g = (legal P).coder.rescaling_least in rw en (next_tame S.image.depth S.coder.rescaling δ old (omega arith) h old_tame)
 
       pub keeping : Keeping l new
       keeping =
-          let c = counted (legal plan).image.depth_most (rescaling_fits (legal plan).coder) new_tame in
+          let c = counted (legal P).image.depth_most (rescaling_fits (legal P).coder) new_tame in
           record { long = fit.long; count_fits = let m = c.count_most in omega arith; accumulator_fits = let m = c.accumulator_most in omega arith }
 
       module _ {l' : List ℤ} (el : l' ≡ set (set l 0 (pos new.count)) 1 (pos new.accumulator)) where
@@ -134,7 +133,7 @@ module _ {P : Plan} {l : List ℤ} (plan : Planned P) (fit : Counts P.settings l
 
 module _ {P : Plan} {l : List ℤ} {δ : ℕ} {k : Tail} (q : Coding P l δ k) where
   pub plain_in : (P.settings.image.depth ≤ 32) × (δ < 2 ^ P.settings.image.depth) × (k.at < 2 ^ 60)
-  plain_in = (let d = (legal q.plan).image.depth_most in omega arith, q.small, let r = q.room in omega arith)
+  plain_in = (let d = (legal P).image.depth_most in omega arith, q.small, let r = q.room in omega arith)
 
   pub first_coded : {out out' : List ℕ} {k' : Tail} (t : ℕ) → t ≡ 0 → Put k out (bits P.settings.image.depth δ) k' out' → Coded P l δ t k out l k' out'
   first_coded t e p = record {
@@ -146,10 +145,10 @@ module _ {P : Plan} {l : List ℤ} {δ : ℕ} {k : Tail} (q : Coding P l δ k) w
   module _ {old : Statistics} (eo : old ≡ statistics_in l) where
     pub putting : Putting k δ old P.settings.image.depth P.settings.coder.unary
     putting = record {
-      counted = old_counted q.plan q.fit eo;
-      depth_least = (legal q.plan).image.depth_least;
-      depth_most = (legal q.plan).image.depth_most;
-      unary_most = (legal q.plan).coder.unary_most;
+      counted = old_counted P q.fit eo;
+      depth_least = (legal P).image.depth_least;
+      depth_most = (legal P).image.depth_most;
+      unary_most = (legal P).coder.unary_most;
       delta_fits = q.small;
       room = let r = q.room in omega arith;
     }
@@ -160,15 +159,15 @@ module _ {P : Plan} {l : List ℤ} {δ : ℕ} {k : Tail} (q : Coding P l δ k) w
         → Coded P l δ t k out l' k' out'
     later_coded t later en el p = record {
       put = put_as (ap (λ (s : Statistics). codeword P.settings.image.depth P.settings.coder.unary (parameter P.settings.image.depth s) δ) eo ∙ encode_later P.settings (statistics_in l) δ t later) p;
-      statistics = new_in q.plan q.fit eo q.small en el t later;
-      fit = new_fit q.plan q.fit eo q.small en el;
+      statistics = new_in P q.fit eo q.small en el t later;
+      fit = new_fit P q.fit eo q.small en el;
     }
 
 -- ---- read
 
 module _ {P : Plan} {l : List ℤ} {at : ℕ} (q : Decoding P l at) where
   pub plain_at : (0 < P.settings.image.depth) × (P.settings.image.depth ≤ 32) × (at ≤ 2 ^ 62)
-  plain_at = (let d = (legal q.plan).image.depth_least in omega arith, let d = (legal q.plan).image.depth_most in omega arith, let r = q.room in omega arith)
+  plain_at = (let d = (legal P).image.depth_least in omega arith, let d = (legal P).image.depth_most in omega arith, let r = q.room in omega arith)
 
   first_by : (F : List Bool) (t : ℕ) → t ≡ 0 → (r : Result (ℕ × ℕ) Unread) → Means F (field P.settings.image.depth (drop at F)) r → Decoded P l F at t l r
   first_by F t e (Ok (δ, a)) m = record {
@@ -185,10 +184,10 @@ module _ {P : Plan} {l : List ℤ} {at : ℕ} (q : Decoding P l at) where
   module _ {old : Statistics} (eo : old ≡ statistics_in l) where
     pub getting : Getting old P.settings.image.depth P.settings.coder.unary at
     getting = record {
-      counted = old_counted q.plan q.fit eo;
-      depth_least = (legal q.plan).image.depth_least;
-      depth_most = (legal q.plan).image.depth_most;
-      unary_most = (legal q.plan).coder.unary_most;
+      counted = old_counted P q.fit eo;
+      depth_least = (legal P).image.depth_least;
+      depth_most = (legal P).image.depth_most;
+      unary_most = (legal P).coder.unary_most;
       room = let r = q.room in omega arith;
     }
 
@@ -209,6 +208,6 @@ module _ {P : Plan} {l : List ℤ} {at : ℕ} (q : Decoding P l at) where
       later_found en el = record {
         off = off_is F t later _ m.0;
         inside = m.1;
-        statistics = new_in q.plan q.fit eo delta_small en el t later;
-        fit = new_fit q.plan q.fit eo delta_small en el;
+        statistics = new_in P q.fit eo delta_small en el t later;
+        fit = new_fit P q.fit eo delta_small en el;
       }

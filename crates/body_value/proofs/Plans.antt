@@ -1,18 +1,20 @@
 -- What is looked up once, as facts: the range is small, and the interval is the power of 2 that its halvings say.
-use Rattle.std.proofs.Common.{◌≡◌, refl, sym, ap, ap₂, ◌∙◌, true, List, ℕ, zero, suc, ◌*◌, ◌/◌, ◌^◌, ◌<◌, ◌≤◌, max, mul_comm, mul-le-mul, mul-le-mul_right, arith, ℤ, nat_abs, pow_pos, pow_mono, w32, SFits, le-leb}
+use Rattle.std.proofs.Common.{◌≡◌, refl, sym, ap, ◌∙◌, true, List, ℕ, zero, suc, ◌*◌, ◌/◌, ◌^◌, ◌<◌, ◌≤◌, max, ℤ, nat_abs, mul_comm, mul-le-mul, mul-le-mul_right, arith, pow_pos, pow_mono, le-leb}
 use Rattle.std.proofs.Math.Decide.{dec_le}
 use borrow.Author.Tests.{lt-leb}
-use Rattle.integers.proofs.Laws.{le_parts, one0, abs_parts, sz_abs, sz_fits}
+use Rattle.integers.proofs.Laws.{le_parts, one0, abs_parts}
 use Rattle.settings.specs.declared.Settings.{Settings}
+use Rattle.settings.specs.declared.range.Range.{Range}
 use Rattle.settings.specs.Legal.{settings_legal, limited}
 use Rattle.settings.specs.Limits.{most_samples}
 use Rattle.settings.specs.LegalLaws.{LegalSettings, legal_settings, limited_facts}
+use Rattle.settings.specs.Range.{lowest, middle, highest}
 use Rattle.settings.specs.RangeLaws.{small}
 use Rattle.predictor.specs.Prediction.{inner, scaled_by, scaled_prediction}
 use Rattle.predictor.specs.WeightUpdate.{exponent_by, exponent}
 use Rattle.predictor.specs.Mapping.{mapped_by, mapped}
 use Rattle.body_value.specs.declared.plan.Plan.{Plan}
-use Rattle.body_value.specs.Plan.{halvings, plan_of, Planned}
+use Rattle.body_value.specs.Planned.{halvings, Planned}
 
 -- ---- sizes
 
@@ -71,7 +73,7 @@ halvings_is (suc x) m e h i low high =
     few (yes l) = l
     few (no l) = let p : 2 ^ 12 ≤ 2 ^ e = pow_mono {i = 12} {j = e} (omega arith) in absurd (omega arith)
 
--- ---- the plan
+-- ---- legal settings
 
 pub depth_in : (S : Settings) → settings_legal S ≡ true → (1 ≤ S.image.depth) × (S.image.depth ≤ 16)
 depth_in S h = let l = (legal_settings S h).image in (omega (arith, l.depth_least), l.depth_most)
@@ -92,70 +94,53 @@ halvings_most S h =
     let m = p.most in
     omega arith
 
--- the facts of a plan
-pub planned : (S : Settings) → settings_legal S ≡ true → limited S.image ≡ true → Planned (plan_of S)
-unfolding plan_of
-planned S h k = record {
+-- ---- the plan
+
+-- of legal settings
+pub planned : (S : Settings) {range : Range} {e : ℕ} → settings_legal S ≡ true
+    → (range.low ≡ lowest S.image) × (range.middle ≡ middle S.image) × (range.high ≡ highest S.image) → e ≡ halvings 11 S.predictor.interval
+    → Planned S S.image.nx (S.image.nx * S.image.ny) range e
+planned S h r i = record {
   legal = h;
-  within = k;
   nx_is = refl;
   area_is = refl;
-  low_is = refl;
-  middle_is = refl;
-  high_is = refl;
-  interval_is = interval_is S h;
-  interval_few = halvings_most S h;
+  low_is = r.0;
+  middle_is = r.1;
+  high_is = r.2;
+  interval_is = rw i (interval_is S h);
+  interval_few = rw i (halvings_most S h);
 }
 
-pub settings_of : (S : Settings) → (plan_of S).settings ≡ S
-unfolding plan_of
-settings_of S = refl
-
-module _ {P : Plan} (p : Planned P) where
+module _ (P : Plan) where
   abbrev S : Settings
   S = P.settings
 
   pub legal : LegalSettings P.settings
-  legal = legal_settings S p.legal
+  legal = legal_settings S P.planned.legal
 
   pub deep : 1 ≤ P.settings.image.depth
   deep = omega (arith, legal.image.depth_least)
 
-  pub middle_small : nat_abs P.middle ≤ 65535
-  middle_small = rw p.middle_is (let m = (small S.image deep legal.image.depth_most).middle_small in omega arith)
-
-  low_small : nat_abs P.low ≤ 65535
-  low_small = rw p.low_is (let m = (small S.image deep legal.image.depth_most).lowest_small in omega arith)
-
-  high_small : nat_abs P.high ≤ 65535
-  high_small = rw p.high_is (small S.image deep legal.image.depth_most).highest_small
-
-  pub low_fits : SFits w32 P.low
-  low_fits = sz_fits (sz_abs P.low low_small) tt
-
-  pub middle_fits : SFits w32 P.middle
-  middle_fits = sz_fits (sz_abs P.middle middle_small) tt
-
-  pub high_fits : SFits w32 P.high
-  high_fits = sz_fits (sz_abs P.high high_small) tt
+  pub middle_small : nat_abs P.range.middle ≤ 65535
+  middle_small = rw P.planned.middle_is (let m = (small S.image deep legal.image.depth_most).middle_small in omega arith)
 
   -- what is computed from the plan is the settings'
   pub scaled_is : {s~ : ℤ} (sum : ℤ) (us ws : List ℤ)
-      → s~ ≡ scaled_by P.settings.predictor.register P.settings.predictor.resolution P.low P.middle P.high (inner ws us) sum
+      → s~ ≡ scaled_by P.settings.predictor.register P.settings.predictor.resolution P.range.low P.range.middle P.range.high (inner ws us) sum
       → s~ ≡ scaled_prediction P.settings sum us ws
   unfolding scaled_prediction
-  scaled_is sum us ws e = e ∙ rw (p.low_is, p.middle_is, p.high_is)
+  scaled_is sum us ws e = e ∙ rw (P.planned.low_is, P.planned.middle_is, P.planned.high_is)
 
-  pub mapped_is : {δ : ℕ} (s~ s : ℤ) → δ ≡ mapped_by P.low P.high s~ s → δ ≡ mapped P.settings s~ s
+  pub mapped_is : {δ : ℕ} (s~ s : ℤ) → δ ≡ mapped_by P.range.low P.range.high s~ s → δ ≡ mapped P.settings s~ s
   unfolding mapped
-  mapped_is s~ s e = e ∙ rw (p.low_is, p.high_is)
+  mapped_is s~ s e = e ∙ rw (P.planned.low_is, P.planned.high_is)
 
   pub exponent_is : {ρ : ℤ} (t : ℕ)
-      → ρ ≡ exponent_by P.nx (2 ^ P.interval) P.settings.predictor.vmin P.settings.predictor.vmax P.settings.image.depth P.settings.predictor.resolution t
+      → ρ ≡ exponent_by P.settings.image.nx (2 ^ P.interval) P.settings.predictor.vmin P.settings.predictor.vmax P.settings.image.depth P.settings.predictor.resolution t
       → ρ ≡ exponent P.settings t
   unfolding exponent
   exponent_is t e =
-      e ∙ ap₂ (λ (n i : ℕ). exponent_by n i S.predictor.vmin S.predictor.vmax S.image.depth S.predictor.resolution t) p.nx_is (sym p.interval_is)
+      e ∙ ap (λ (i : ℕ). exponent_by S.image.nx i S.predictor.vmin S.predictor.vmax S.image.depth S.predictor.resolution t) (sym P.planned.interval_is)
 
 -- the ends of the weight exponent's range
 module _ {S : Settings} (l : LegalSettings S) where
@@ -176,9 +161,3 @@ module _ {S : Settings} (l : LegalSettings S) where
       let b = le_parts l.predictor.vmin_vmax in
       let c = le_parts l.predictor.vmax_most in
       omega (arith, one0 v, one0 w, abs_parts w)
-
-  pub vmin_fits : SFits w32 S.predictor.vmin
-  vmin_fits = sz_fits (sz_abs S.predictor.vmin vmin_small) tt
-
-  pub vmax_fits : SFits w32 S.predictor.vmax
-  vmax_fits = sz_fits (sz_abs S.predictor.vmax vmax_small) tt

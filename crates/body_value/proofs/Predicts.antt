@@ -1,6 +1,6 @@
 -- The predictor's half: what each function asks follows from the plan, the place and sizes; what they answer is the definition's.
-use Rattle.std.proofs.Common.{◌≡◌, refl, sym, ◌∙◌, ap, ap₂, Bool, true, List, ◌++◌, ℕ, zero, suc, ◌+◌, ◌*◌, ◌^◌, ◌<◌, ◌≤◌, arith, ℤ, pos, nat_abs, ◌-ℤ◌, ◌≤ℤ◌, length, get_or, take, drop, length-append, length-drop, pow_mono, take_at, length-take-le}
-use lib.Signed.{le_z}
+use Rattle.std.proofs.Common.{◌≡◌, refl, sym, ◌∙◌, ap, ap₂, Bool, true, List, ◌++◌, ℕ, zero, suc, ◌+◌, ◌*◌, ◌^◌, ◌<◌, ◌≤◌, ℤ, pos, nat_abs, ◌-ℤ◌, ◌≤ℤ◌, length, get_or, take, drop, arith, length-append, length-drop, length-take-le, take_at, pow_mono}
+use Rattle.std.specs.Int.Signed.{le_z}
 use Rattle.settings.specs.Limits.{most_samples}
 use Rattle.settings.specs.declared.Settings.{Settings}
 use Rattle.settings.specs.Range.{in_range}
@@ -25,15 +25,13 @@ use Rattle.predictor.specs.Asks as asks
 use Rattle.predictor.specs.Asks.{Pairs, Terms, Stepping, Schedule, Sized, Ranged}
 use Rattle.body_value.specs.declared.plan.Plan.{Plan}
 use Rattle.body_value.specs.declared.Place.{Place}
-use Rattle.body_value.specs.Plan.{Planned}
 use Rattle.body_value.specs.Predictor.{count, Predicting, Predicted, Learning, learnt, Learnt, Mapped, Restored}
 use Rattle.body_value.proofs.Plans.{area_few, legal, deep, middle_small, scaled_is, mapped_is, exponent_is, vmin_small, vmax_small}
 
 -- ---- the plan
 
-module _ {P : Plan} (q : Planned P) where
-  pub few : (z : ℕ) (p : Place) → count P p ≤ 18
-  few z p = components_fit P.settings.predictor p.z (legal q).predictor.bands_most
+pub few : (P : Plan) (p : Place) → count P p ≤ 18
+few P p = components_fit P.settings.predictor p.z (legal P).predictor.bands_most
 
 -- ---- the definition, with the first value inside
 
@@ -76,7 +74,7 @@ module _ {P : Plan} {ws us : List ℤ} {s~ : ℤ} {p : Place} (q : Learning P ws
   n = count P p
 
   pub n_few : count P p ≤ 18
-  n_few = few q.plan 0 p
+  n_few = few P p
 
   pub ws_long : length (take (count P p) ws) ≡ count P p
   ws_long = length-take-le n ws (let l = q.fit.long in let f = n_few in omega arith)
@@ -84,13 +82,13 @@ module _ {P : Plan} {ws us : List ℤ} {s~ : ℤ} {p : Place} (q : Learning P ws
   pub us_long : length (take (count P p) us) ≡ count P p
   us_long = length-take-le n us (let l = q.long in let f = n_few in omega arith)
 
-  pub schedule : Schedule p.t P.nx P.interval P.settings.predictor.vmin P.settings.predictor.vmax P.settings.image.depth P.settings.predictor.resolution
+  pub schedule : Schedule p.t P.settings.image.nx P.interval P.settings.predictor.vmin P.settings.predictor.vmax P.settings.image.depth P.settings.predictor.resolution
   schedule =
-      let g = legal q.plan in
+      let g = legal P in
       record {
-        t_most = let a = area_few S q.plan.legal q.plan.within in let h = q.here.place_in in omega arith;
-        nx_most = let a = g.image.nx_most in let e = q.plan.nx_is in omega arith;
-        interval_most = q.plan.interval_few;
+        t_most = let a = area_few S P.planned.legal q.within in let h = q.here.place_in in omega arith;
+        nx_most = let a = g.image.nx_most in omega arith;
+        interval_most = P.planned.interval_few;
         vmin_small = vmin_small g;
         vmax_small = vmax_small g;
         ordered = g.predictor.vmin_vmax;
@@ -102,14 +100,14 @@ module _ {P : Plan} {ws us : List ℤ} {s~ : ℤ} {p : Place} (q : Learning P ws
   stepping later h = record {
     pairs = record { few = let l = ws_long in let f = n_few in omega arith; same = us_long ∙ sym ws_long; ws_small = q.fit.small; us_small = q.small later };
     rho_small = h;
-    resolution_most = (legal q.plan).predictor.resolution_most;
+    resolution_most = (legal P).predictor.resolution_most;
   }
 
   pub unlearnt : (s : ℤ) → p.t ≡ 0 → Learnt P ws us s~ s p ws
   unlearnt s e = record { weights = sym (learnt_first S s s~ (take n us) (take n ws) p.t e); fit = q.fit }
 
   pub learnt_so : (s rho : ℤ) (up : Bool) (ws1 : List ℤ) → 0 < p.t
-      → rho ≡ exponent_by P.nx (2 ^ P.interval) P.settings.predictor.vmin P.settings.predictor.vmax P.settings.image.depth P.settings.predictor.resolution p.t
+      → rho ≡ exponent_by P.settings.image.nx (2 ^ P.interval) P.settings.predictor.vmin P.settings.predictor.vmax P.settings.image.depth P.settings.predictor.resolution p.t
       → up ≡ le_z (pos 0) (scaled_error s s~) → ws1 ≡ stepped_weights P.settings.predictor.resolution (λ i. rho) up (take (count P p) us) (take (count P p) ws)
       → Learnt P ws us s~ s p (ws1 ++ drop (count P p) ws)
   unfolding next_weights
@@ -117,8 +115,8 @@ module _ {P : Plan} {ws us : List ℤ} {s~ : ℤ} {p : Place} (q : Learning P ws
       let Ω = S.predictor.resolution in
       let wl : length ws1 ≡ n = ap length ew ∙ stepped_weights_length Ω (λ i. rho) up (take n us) (take n ws) (us_long ∙ sym ws_long) ∙ ws_long in
       let tk : take n (ws1 ++ drop n ws) ≡ ws1 = take_at ws1 (drop n ws) n wl in
-      let er' = exponent_is q.plan p.t er in
-      let fine : Ω + 2 ≤ 21 = omega (arith, (legal q.plan).predictor.resolution_most) in
+      let er' = exponent_is P p.t er in
+      let fine : Ω + 2 ≤ 21 = omega (arith, (legal P).predictor.resolution_most) in
       let wide : 2 ^ (Ω + 2) ≤ 2 ^ 21 = pow_mono fine in
       record {
         weights = tk ∙ ew ∙ ap₂ (λ (r : ℤ) (u : Bool). stepped_weights Ω (λ i. r) u (take n us) (take n ws)) er' eu ∙ sym (learnt_later S s s~ (take n us) (take n ws) p.t later);
@@ -129,7 +127,7 @@ module _ {P : Plan} {ws us : List ℤ} {s~ : ℤ} {p : Place} (q : Learning P ws
       }
 
   pub learnt_by : (m : ℕ) → m ≡ count P p → (s rho : ℤ) (up : Bool) (ws1 : List ℤ) → 0 < p.t
-      → rho ≡ exponent_by P.nx (2 ^ P.interval) P.settings.predictor.vmin P.settings.predictor.vmax P.settings.image.depth P.settings.predictor.resolution p.t
+      → rho ≡ exponent_by P.settings.image.nx (2 ^ P.interval) P.settings.predictor.vmin P.settings.predictor.vmax P.settings.image.depth P.settings.predictor.resolution p.t
       → up ≡ le_z (pos 0) (scaled_error s s~) → ws1 ≡ stepped_weights P.settings.predictor.resolution (λ i. rho) up (take m us) (take m ws)
       → Learnt P ws us s~ s p (ws1 ++ drop m ws)
   learnt_by m em s rho up ws1 later er eu ew = rw em (learnt_so s rho up ws1 later er eu (rw em at ew))
@@ -147,8 +145,8 @@ module _ {P : Plan} {samples ws : List ℤ} {p : Place} (q : Predicting P sample
   unfolding image_of
   image_ranged y i = all_ranged q.image (index_of P.settings.image y i)
 
-  pub first_in : asks.First P.settings samples p.z P.middle
-  first_in = record { given = q.image; band_in = q.here.band_in; middle_is = q.plan.middle_is }
+  pub first_in : asks.First P.settings samples p.z P.range.middle
+  first_in = record { given = q.image; band_in = q.here.band_in; middle_is = P.planned.middle_is }
 
   pub differing : 0 < p.t → (us : List ℤ) → length us ≡ 18 → asks.Differing P.settings samples us p.z p.t p.x
   differing later us e = record {
@@ -161,22 +159,22 @@ module _ {P : Plan} {samples ws : List ℤ} {p : Place} (q : Predicting P sample
   }
 
   pub held_in : count P p ≤ length ws
-  held_in = let l = q.fit.long in let f = few q.plan 0 p in omega arith
+  held_in = let l = q.fit.long in let f = few P p in omega arith
 
   pub held_long : length (take (count P p) ws) ≡ count P p
   held_long = length-take-le (count P p) ws held_in
 
   pub us_taken : (us : List ℤ) → length us ≡ 18 → length (take (count P p) us) ≡ count P p
-  us_taken us e = length-take-le (count P p) us (let f = few q.plan 0 p in omega arith)
+  us_taken us e = length-take-le (count P p) us (let f = few P p in omega arith)
 
   pub terms : (us : List ℤ) (sum : ℤ) → us ≡ components_at P.settings (image_of P.settings.image samples) p.z p.t
       → sum ≡ sum_at P.settings.image.nx P.settings.predictor.column (image_of P.settings.image samples p.z) p.t
-      → Terms (take (count P p) ws) us sum P.settings.predictor.register P.settings.predictor.resolution P.middle
+      → Terms (take (count P p) ws) us sum P.settings.predictor.register P.settings.predictor.resolution P.range.middle
   terms us sum e es =
-      let g = legal q.plan in
+      let g = legal P in
       record {
         pairs = record {
-          few = let l = held_long in let f = few q.plan 0 p in omega arith;
+          few = let l = held_long in let f = few P p in omega arith;
           same = ap length e ∙ components_at_length S' I p.z p.t ∙ sym held_long;
           ws_small = q.fit.small;
           us_small = rw e (components_small S' I p.z (λ y i h. image_ranged y i) g p.t);
@@ -184,7 +182,7 @@ module _ {P : Plan} {samples ws : List ℤ} {p : Place} (q : Predicting P sample
         sum_small = rw es (sum_small S' I p.z (λ y i h. image_ranged y i) g p.t);
         register_in = (let h = g.predictor.register_least in omega arith, g.predictor.register_most);
         resolution_most = g.predictor.resolution_most;
-        middle_small = middle_small q.plan;
+        middle_small = middle_small P;
       }
 
   pub first_is : (us : List ℤ) (s~ : ℤ) → p.t ≡ 0 → length us ≡ 18 → s~ ≡ first_prediction P.settings (image_of P.settings.image samples) p.z → Predicted P samples ws p us s~
@@ -195,11 +193,11 @@ module _ {P : Plan} {samples ws : List ℤ} {p : Place} (q : Predicting P sample
   }
 
   pub later_is : (us : List ℤ) (sum s~ : ℤ) → 0 < p.t → asks.Differences P.settings samples p.z p.t sum us
-      → s~ ≡ scaled_by P.settings.predictor.register P.settings.predictor.resolution P.low P.middle P.high (inner (take (count P p) ws) (take (count P p) us)) sum
+      → s~ ≡ scaled_by P.settings.predictor.register P.settings.predictor.resolution P.range.low P.range.middle P.range.high (inner (take (count P p) ws) (take (count P p) us)) sum
       → Predicted P samples ws p us s~
   later_is us sum s~ later d es = record {
     scaled_is =
-        scaled_is q.plan sum (take (count P p) us) (take (count P p) ws) es
+        scaled_is P sum (take (count P p) us) (take (count P p) ws) es
         ∙ ap₂ (λ (a : ℤ) (l : List ℤ). scaled_prediction S' a l (take (count P p) ws)) d.sum_is d.components_are
         ∙ scaled_later S' I p.z p.t (take (count P p) ws) later;
     components_are = λ h. d.components_are;
@@ -207,55 +205,55 @@ module _ {P : Plan} {samples ws : List ℤ} {p : Place} (q : Predicting P sample
   }
 
   pub index_in : p.z * P.area + p.t < length samples
-  index_in = rw q.plan.area_is (inside q.image q.here.band_in q.here.place_in)
+  index_in = rw P.planned.area_is (inside q.image q.here.band_in q.here.place_in)
 
   pub index_small : p.z * P.area + p.t ≤ most_samples
   index_small = let h = index_in in omega (arith, inputs.whole q.image, inputs.few q.image)
 
   pub sample_at : get_or samples (p.z * P.area + p.t) (pos 0) ≡ image_of P.settings.image samples p.z p.t
   unfolding image_of
-  sample_at = ap (λ (a : ℕ). get_or samples (p.z * a + p.t) (pos 0)) q.plan.area_is
+  sample_at = ap (λ (a : ℕ). get_or samples (p.z * a + p.t) (pos 0)) P.planned.area_is
 
   module _ {us : List ℤ} {s~ : ℤ} (r : Predicted P samples ws p us s~) where
     pub in_scale : Scaled P.settings s~
-    in_scale = rw r.scaled_is (scaled_with_range S' (deep q.plan) I p.z (λ y h. image_ranged y 0) p.t (take (count P p) ws))
+    in_scale = rw r.scaled_is (scaled_with_range S' (deep P) I p.z (λ y h. image_ranged y 0) p.t (take (count P p) ws))
 
     pub learning : Learning P ws us s~ p
     learning = record {
-      plan = q.plan;
+      within = q.image.within;
       here = q.here;
       fit = q.fit;
       long = r.long;
-      small = λ h. rw (r.components_are h) (components_small S' I p.z (λ y i k. image_ranged y i) (legal q.plan) p.t);
-      scaled_small = let m = scaled_small (legal q.plan) s~ in_scale in omega arith;
+      small = λ h. rw (r.components_are h) (components_small S' I p.z (λ y i k. image_ranged y i) (legal P) p.t);
+      scaled_small = let m = scaled_small (legal P) s~ in_scale in omega arith;
     }
 
-    pub mapping : (s : ℤ) → s ≡ image_of P.settings.image samples p.z p.t → Sized s~ P.low P.high × (nat_abs s ≤ 2 ^ 29)
+    pub mapping : (s : ℤ) → s ≡ image_of P.settings.image samples p.z p.t → Sized s~ P.range.low P.range.high × (nat_abs s ≤ 2 ^ 29)
     mapping s e =
-        rw (q.plan.low_is, q.plan.high_is)
-        (sized_asks (legal q.plan) s~ in_scale, rw e (sample_asks (legal q.plan) _ (image_ranged p.z p.t)))
+        rw (P.planned.low_is, P.planned.high_is)
+        (sized_asks (legal P) s~ in_scale, rw e (sample_asks (legal P) _ (image_ranged p.z p.t)))
 
-    pub mapped_so : (s : ℤ) (δ : ℕ) (ws' : List ℤ) → s ≡ image_of P.settings.image samples p.z p.t → δ ≡ mapped_by P.low P.high s~ s
+    pub mapped_so : (s : ℤ) (δ : ℕ) (ws' : List ℤ) → s ≡ image_of P.settings.image samples p.z p.t → δ ≡ mapped_by P.range.low P.range.high s~ s
         → Learnt P ws us s~ s p ws' → Mapped P samples ws p ws' δ
     mapped_so s δ ws' e ed l =
-        let d : δ ≡ mapped S' s~ s = mapped_is q.plan s~ s ed in
+        let d : δ ≡ mapped S' s~ s = mapped_is P s~ s ed in
         record {
           delta_is = d ∙ ap₂ (λ (a b : ℤ). mapped S' a b) r.scaled_is e;
           weights =
               l.weights ∙ behind_is S' I p.z p.t s s~ (take (count P p) us) (take (count P p) ws) r.components_are r.scaled_is
               ∙ ap (λ (v : ℤ). weights_behind S' I p.z p.t v (take (count P p) ws)) e;
           fit = l.fit;
-          small = rw d (mapped_small S' s~ (scaled_predicted S' s~ in_scale) (deep q.plan) s (rw e (image_ranged p.z p.t)));
+          small = rw d (mapped_small S' s~ (scaled_predicted S' s~ in_scale) (deep P) s (rw e (image_ranged p.z p.t)));
         }
 
-    pub unmapping : {δ : ℕ} → δ < 2 ^ P.settings.image.depth → Ranged s~ P.low P.high × (pos δ ≤ℤ (P.high -ℤ P.low))
-    unmapping {δ} h = rw (q.plan.low_is, q.plan.high_is) (ranged_asks (legal q.plan) s~ in_scale, delta_asks (legal q.plan) δ h)
+    pub unmapping : {δ : ℕ} → δ < 2 ^ P.settings.image.depth → Ranged s~ P.range.low P.range.high × (pos δ ≤ℤ (P.range.high -ℤ P.range.low))
+    unmapping {δ} h = rw (P.planned.low_is, P.planned.high_is) (ranged_asks (legal P) s~ in_scale, delta_asks (legal P) δ h)
 
-    unmapped_is : (s : ℤ) (δ : ℕ) → s ≡ unmapped_by P.low P.high s~ δ → s ≡ unmapped P.settings s~ δ
+    unmapped_is : (s : ℤ) (δ : ℕ) → s ≡ unmapped_by P.range.low P.range.high s~ δ → s ≡ unmapped P.settings s~ δ
     unfolding unmapped
-    unmapped_is s δ e = e ∙ rw (q.plan.low_is, q.plan.high_is)
+    unmapped_is s δ e = e ∙ rw (P.planned.low_is, P.planned.high_is)
 
-    pub restored_so : (s : ℤ) (δ : ℕ) (ws' : List ℤ) → δ < 2 ^ P.settings.image.depth → s ≡ unmapped_by P.low P.high s~ δ
+    pub restored_so : (s : ℤ) (δ : ℕ) (ws' : List ℤ) → δ < 2 ^ P.settings.image.depth → s ≡ unmapped_by P.range.low P.range.high s~ δ
         → Learnt P ws us s~ s p ws' → Restored P samples ws p δ ws' s
     restored_so s δ ws' h e l =
         let u : s ≡ unmapped S' s~ δ = unmapped_is s δ e in
@@ -263,5 +261,5 @@ module _ {P : Plan} {samples ws : List ℤ} {p : Place} (q : Predicting P sample
           sample_is = u ∙ ap (λ (a : ℤ). unmapped S' a δ) r.scaled_is;
           weights = l.weights ∙ behind_is S' I p.z p.t s s~ (take (count P p) us) (take (count P p) ws) r.components_are r.scaled_is;
           fit = l.fit;
-          in_range_lem = rw u (unmapped_range S' s~ (scaled_predicted S' s~ in_scale) (deep q.plan) δ h);
+          in_range_lem = rw u (unmapped_range S' s~ (scaled_predicted S' s~ in_scale) (deep P) δ h);
         }

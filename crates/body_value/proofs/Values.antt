@@ -32,7 +32,6 @@ use Rattle.body.specs.Body.{code, mapped_off, restored, read_body}
 use Rattle.body_value.specs.declared.plan.Plan.{Plan}
 use Rattle.body_value.specs.declared.Place.{Place}
 use Rattle.body_value.specs.declared.Cursor.{Cursor}
-use Rattle.body_value.specs.Plan.{Planned}
 use Rattle.body_value.specs.Predictor.{Predicting, Mapped, Restored}
 use Rattle.body_value.specs.Coder.{statistics_in, Coding, Coded, Found}
 use Rattle.body_value.specs.Value.{Held, refused_at, place_of, Writing, Wrote, Reading, Placed}
@@ -103,10 +102,10 @@ module _ (S : Settings) (tables : List ℤ) (I : Image) (z t : ℕ) {ws : List �
 
 -- ---- written
 
-few_bits : {P : Plan} → Planned P → (s : Statistics) (t δ : ℕ) → length (encode P.settings t s δ) ≤ 64
-few_bits {P} q s t δ =
+few_bits : (P : Plan) (s : Statistics) (t δ : ℕ) → length (encode P.settings t s δ) ≤ 64
+few_bits P s t δ =
     let m = length_encode P.settings s t δ in
-    omega (arith, (legal q).coder.unary_most, (legal q).image.depth_most)
+    omega (arith, (legal P).coder.unary_most, (legal P).image.depth_most)
 
 module _ {P : Plan} {samples slots : List ℤ} {k : Tail} {p : Place} (q : Writing P samples slots k p) where
   abbrev S : Settings
@@ -116,14 +115,14 @@ module _ {P : Plan} {samples slots : List ℤ} {k : Tail} {p : Place} (q : Writi
   I = image_of P.settings.image samples
 
   pub mapping : Predicting P samples (take 18 slots) p
-  mapping = record { plan = q.plan; image = q.image; here = q.here; fit = q.fits.weights }
+  mapping = record { image = q.image; here = q.here; fit = q.fits.weights }
 
   module _ {ws' : List ℤ} {δ : ℕ} (m : Mapped P samples (take 18 slots) p ws' δ) where
     kept : take 14 (drop 18 (ws' ++ drop 18 slots)) ≡ take 14 (drop 18 slots)
     kept = ap (take 14) (drop_at ws' (drop 18 slots) 18 m.fit.long)
 
     pub coding : Coding P (take 14 (drop 18 (ws' ++ drop 18 slots))) δ k
-    coding = record { plan = q.plan; fit = rw kept q.fits.counts; small = m.small; room = q.room }
+    coding = record { fit = rw kept q.fits.counts; small = m.small; room = q.room }
 
     pub wrote : {out out' : List ℕ} {k' : Tail} {l' : List ℤ} → Coded P (take 14 (drop 18 (ws' ++ drop 18 slots))) δ p.t k out l' k' out'
         → Wrote P samples slots k out p (put_mid 18 14 (ws' ++ drop 18 slots) l') k' out'
@@ -134,7 +133,7 @@ module _ {P : Plan} {samples slots : List ℤ} {k : Tail} {p : Place} (q : Writi
         record {
           bits = encode S p.t (statistics_in (take 14 (drop 18 (ws' ++ drop 18 slots)))) δ;
           put = d.put;
-          few = few_bits q.plan _ p.t δ;
+          few = few_bits P _ p.t δ;
           fits = record {
             long = first_long slots ws' l' long w n;
             weights = rw (first_front slots ws' l' long w n) m.fit;
@@ -261,7 +260,7 @@ module _ {P : Plan} {samples slots : List ℤ} {c : Cursor} {p : Place} (q : Rea
   I' = image_of P.settings.image samples
 
   pub predicting : Predicting P samples (take 18 slots) p
-  predicting = record { plan = q.plan; image = q.image; here = q.here; fit = q.fits.weights }
+  predicting = record { image = q.image; here = q.here; fit = q.fits.weights }
 
   pub lent : (l' : List ℤ) → 18 ≡ length (take 18 (put_mid 18 14 slots l'))
   lent l' =
@@ -269,7 +268,7 @@ module _ {P : Plan} {samples slots : List ℤ} {c : Cursor} {p : Place} (q : Rea
       sym (ap length (take_put 18 14 slots l' f) ∙ length-take-le 18 slots f)
 
   pub index_is : p.z * P.area + p.t ≡ index_of P.settings.image p.z p.t
-  index_is = ap (λ (a : ℕ). p.z * a + p.t) q.plan.area_is
+  index_is = ap (λ (a : ℕ). p.z * a + p.t) P.planned.area_is
 
   stops_short : (F : List Bool) → decode P.settings p.t (statistics_in (take 14 (drop 18 slots))) (drop c.at F) ≡ short
       → (tables : List ℤ) → Held P.settings tables (image_of P.settings.image samples) p.z p.t slots
@@ -295,7 +294,7 @@ module _ {P : Plan} {samples slots : List ℤ} {c : Cursor} {p : Place} (q : Rea
     front = take_put 18 14 slots l' (let l = q.fits.long in omega arith)
 
     pub sampling : Predicting P samples (take 18 (put_mid 18 14 slots l')) p × (δ < 2 ^ P.settings.image.depth)
-    sampling = (record { plan = q.plan; image = q.image; here = q.here; fit = rw front q.fits.weights }, written.1)
+    sampling = (record { image = q.image; here = q.here; fit = rw front q.fits.weights }, written.1)
 
     module _ {ws' : List ℤ} {v : ℤ} (r : Restored P samples (take 18 (put_mid 18 14 slots l')) p δ ws' v) where
       pub took : (i : ℕ) → i ≡ index_of P.settings.image p.z p.t → (n : ℕ) → n ≡ c.rank + 1
@@ -305,7 +304,7 @@ module _ {P : Plan} {samples slots : List ℤ} {c : Cursor} {p : Place} (q : Rea
           let m = d.fit.long in
           let long = q.fits.long in
           let next : n ≡ suc c.rank = en ∙ add-one c.rank in
-          let nx : 0 < S'.image.nx = (legal q.plan).image.nx_least in
+          let nx : 0 < S'.image.nx = (legal P).image.nx_least in
           let ha = q.here.place_in in
           rw ei (record {
             value = v;
@@ -317,7 +316,7 @@ module _ {P : Plan} {samples slots : List ℤ} {c : Cursor} {p : Place} (q : Rea
               counts = rw (last_behind slots ws' l' long w m) d.fit;
             };
             next = next;
-            few = close a c.at _ (near F (encode S' p.t (statistics_in (take 14 (drop 18 slots))) δ) c.at a written.0 d.inside) (few_bits q.plan (statistics_in (take 14 (drop 18 slots))) p.t δ);
+            few = close a c.at _ (near F (encode S' p.t (statistics_in (take 14 (drop 18 slots))) δ) c.at a written.0 d.inside) (few_bits P (statistics_in (take 14 (drop 18 slots))) p.t δ);
             inside = d.inside;
             means = λ tables h.
                 let hw = ap (take (component_count S'.predictor p.z)) front ∙ h.weights in

@@ -1,6 +1,7 @@
 -- The predictor's half of a value: from the weights that slots hold, whatever they are, to what the definition makes of them.
 use Rattle.std.specs.Prelude.{◌≡◌, true, List, ℕ, zero, suc, ◌^◌, ◌<◌, ◌≤◌, ℤ, nat_abs, length, take}
 use Rattle.settings.specs.declared.Settings.{Settings}
+use Rattle.settings.specs.Legal.{limited}
 use Rattle.settings.specs.Tables.{component_count}
 use Rattle.settings.specs.Range.{in_range}
 use Rattle.predictor.specs.Differences.{image_of, components_at}
@@ -12,7 +13,7 @@ use Rattle.predictor.specs.SizeLaws.{Size}
 use Rattle.predictor.specs.Asks as asks
 use Rattle.body_value.specs.declared.plan.Plan.{Plan}
 use Rattle.body_value.specs.declared.Place.{Place}
-use Rattle.body_value.specs.Plan.{Planned, Inside}
+use Rattle.body_value.specs.Plan.{Inside}
 
 -- the components of a place
 abbrev pub count : Plan → Place → ℕ
@@ -25,7 +26,6 @@ pub record Weights (n : ℕ) (slots : List ℤ) : Type 0 where
 
 -- a place of an image in range, and slots of its band
 pub record Predicting (P : Plan) (samples ws : List ℤ) (p : Place) : Type 0 where
-  pub plan : Planned P
   pub image : asks.Given P.settings samples
   pub here : Inside P p
   pub fit : Weights (count P p) ws
@@ -38,7 +38,7 @@ pub record Predicted (P : Plan) (samples ws : List ℤ) (p : Place) (us : List �
 
 -- components and a prediction to learn from
 pub record Learning (P : Plan) (ws us : List ℤ) (s~ : ℤ) (p : Place) : Type 0 where
-  pub plan : Planned P
+  pub within : limited P.settings.image ≡ true
   pub here : Inside P p
   pub fit : Weights (count P p) ws
   pub long : length us ≡ 18

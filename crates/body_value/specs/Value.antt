@@ -19,7 +19,7 @@ use Rattle.body.specs.Body.{code, read_body}
 use Rattle.body_value.specs.declared.plan.Plan.{Plan}
 use Rattle.body_value.specs.declared.Place.{Place}
 use Rattle.body_value.specs.declared.Cursor.{Cursor}
-use Rattle.body_value.specs.Plan.{Planned, Inside}
+use Rattle.body_value.specs.Plan.{Inside}
 use Rattle.body_value.specs.Predictor.{Weights}
 use Rattle.refusals.specs.declared.Refusal.{Refusal}
 use Rattle.body_value.specs.Coder.{statistics_in, Counts}
@@ -41,7 +41,6 @@ pub record Held (S : Settings) (tables : List ℤ) (I : Image) (z t : ℕ) (slot
 
 -- slots for a band of legal tables
 pub record Startable (P : Plan) (tables slots : List ℤ) (z : ℕ) : Type 0 where
-  pub plan : Planned P
   pub begins : coder.Beginning P.settings tables z
   pub long : length slots ≡ scratch_stride
 
@@ -59,7 +58,6 @@ place_of p = record { z = p.z; t = p.t }
 -- ---- written
 
 pub record Writing (P : Plan) (samples slots : List ℤ) (k : Tail) (p : Place) : Type 0 where
-  pub plan : Planned P
   pub image : asks.Given P.settings samples
   pub here : Inside P p
   pub fits : Fits P p.z slots
@@ -77,7 +75,6 @@ pub record Wrote (P : Plan) (samples slots : List ℤ) (k : Tail) (out : List �
 -- ---- read
 
 pub record Reading (P : Plan) (samples slots : List ℤ) (c : Cursor) (p : Place) : Type 0 where
-  pub plan : Planned P
   pub image : asks.Given P.settings samples
   pub here : Inside P p
   pub fits : Fits P p.z slots

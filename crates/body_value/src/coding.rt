@@ -4,7 +4,7 @@ ghost use Rattle.bitstream.specs.Stream.{unpack};
 ghost use Rattle.body_value.specs.Coder.{statistics_in, Counts, Keeping, Coding, Coded, Decoding, Decoded};
 
 use super::plan::Plan;
-use bitstream::read::{Unread, get};
+use bitstream::read::{Bits, Unread};
 use bitstream::write::Tail;
 use coder::Statistics;
 use coder::counts::{natural, next_statistics};
@@ -53,22 +53,16 @@ pub fn coded(p: Plan, slots: &mut [i32], delta: u32, t: usize, tail: Tail, out: 
 }
 
 // The mapped value at a position of the file.
-pub fn decoded(
-    p: Plan,
-    slots: &mut [i32],
-    file: &[u8],
-    at: usize,
-    t: usize,
-) -> Result<(u32, usize), Unread>
-    requires { Decoding p slots.old at }
-    ensures { Decoded p slots.old (unpack file.now) at t slots.new result }
+pub fn decoded(p: Plan, slots: &mut [i32], bits: Bits, t: usize) -> Result<(u32, usize), Unread>
+    requires { Decoding p slots.old bits.at }
+    ensures { Decoded p slots.old (unpack bits.entry.file.now) bits.entry.at t slots.new result }
 {
     let s = p.settings;
     if t == 0 {
-        return get(file, at, s.image.depth);
+        return bits.get(s.image.depth);
     }
     let old = held(p, &*slots);
-    let (delta, next) = get_value(file, at, old, s.image.depth, s.coder.unary)?;
+    let (delta, next) = get_value(bits, old, s.image.depth, s.coder.unary)?;
     let new = next_statistics(old, delta, s.coder.rescaling);
     keep(slots, new);
     Ok((delta, next))

@@ -1,20 +1,20 @@
 // The settings, and what every value needs of them and they give only by computing: looked up once.
 ghost use Rattle.std.specs.Prelude.{◌≡◌, true, ◌^◌, ◌≤◌};
 ghost use Rattle.settings.specs.Legal.{settings_legal};
-ghost use Rattle.body_value.specs.Plan.{halvings, plan_of};
+ghost use Rattle.body_value.specs.Planned.{halvings, Planned};
 
 use settings::Settings;
+use settings::range::Range;
 
-// The settings, the sizes of a row and of a band, the samples' range, and the exponent of the interval.
+// Legal settings, the sizes of a row and of a band, the samples' range, and the exponent of the interval, which is a power of 2.
 #[derive(Clone, Copy)]
 pub struct Plan {
     pub settings: Settings,
     pub nx: usize,
     pub area: usize,
-    pub low: i32,
-    pub middle: i32,
-    pub high: i32,
+    pub range: Range,
     pub interval: u32,
+    pub ghost planned: { Planned settings nx area range interval },
 }
 
 // How often a number is halved before it is at most 1.
@@ -28,11 +28,10 @@ fn halvings(x: u32) -> u32
 // The plan of legal settings.
 pub fn plan_of(s: Settings) -> Plan
     requires { settings_legal s ≡ true }
-    ensures { result ≡ plan_of s }
+    ensures settings { result.settings ≡ s }
+    ensures interval { result.interval ≡ halvings 11 s.predictor.interval }
 {
-    let low = settings::range::lowest(s.image);
-    let middle = settings::range::middle(s.image);
-    let high = settings::range::highest(s.image);
+    let range = Range::of(s.image);
     let interval = halvings(s.predictor.interval);
     let nx = s.image.nx as usize;
     let area = nx * (s.image.ny as usize);
@@ -40,9 +39,7 @@ pub fn plan_of(s: Settings) -> Plan
         settings: s,
         nx,
         area,
-        low,
-        middle,
-        high,
+        range,
         interval,
     }
 }

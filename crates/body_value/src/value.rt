@@ -7,7 +7,7 @@ use super::coding::{coded, decoded};
 use super::plan::Plan;
 use super::predicting::{mapped_here, sample_here};
 use super::{Cursor, Place};
-use bitstream::read::Unread;
+use bitstream::read::{Bits, Unread};
 use bitstream::write::Tail;
 use refusals::Refusal;
 
@@ -49,9 +49,9 @@ pub fn read_value(
     requires { Reading p image.old slots.old c place }
     ensures { Stepped p (unpack file.now) image.old slots.old c place image.new slots.new result }
 {
-    let (delta, next) = decoded(p, &mut slots[18..32], file, c.at, place.t).map_err(
-        |why| refused_at(c.rank, why),
-    )?;
+    let bits = Bits { file, at: c.at };
+    let read = decoded(p, &mut slots[18..32], bits, place.t);
+    let (delta, next) = read.map_err(|why| refused_at(c.rank, why))?;
     let sample = sample_here(p, &*image, &mut slots[..18], place, delta);
     image[place.z * p.area + place.t] = sample;
     Ok(Cursor {

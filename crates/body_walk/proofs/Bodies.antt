@@ -1,5 +1,5 @@
 -- All bands begun, and the body as the walk over all its places.
-use Rattle.std.proofs.Common.{Result, Ok, Err, ◌≡◌, refl, sym, ◌∙◌, ap, Bool, false, List, [], ◌++◌, append-nil, ℕ, ◌+◌, ◌-◌, ◌*◌, ◌<◌, ◌≤◌, arith, ℤ, length, drop}
+use Rattle.std.proofs.Common.{Result, Ok, Err, ◌≡◌, refl, sym, ◌∙◌, ap, Bool, true, false, List, [], ◌++◌, append-nil, ℕ, ◌+◌, ◌-◌, ◌*◌, ◌<◌, ◌≤◌, arith, ℤ, length, drop}
 use native.Mathlib.Decide.{ℕ_discrete}
 use borrow.Rule.Slice.PartMut.{put_mid}
 use Rattle.settings.specs.Limits.{most_samples}
@@ -7,6 +7,7 @@ use Rattle.bitstream.specs.declared.write.Tail.{Tail}
 use Rattle.bitstream.specs.Writer.{Put}
 use Rattle.bitstream.proofs.Writes.{put_as}
 use Rattle.settings.specs.declared.Settings.{Settings}
+use Rattle.settings.specs.Legal.{limited}
 use Rattle.settings.specs.LegalLaws.{limited_facts}
 use Rattle.refusals.specs.declared.Refusal.{Refusal}
 use Rattle.refusals.specs.Reading.{got}
@@ -17,7 +18,6 @@ use Rattle.body.specs.OrderLaws.{length_order}
 use Rattle.body.specs.Body.{body, read_body}
 use Rattle.body_value.specs.declared.plan.Plan.{Plan}
 use Rattle.body_value.specs.declared.Cursor.{Cursor}
-use Rattle.body_value.specs.Plan.{Planned}
 use Rattle.body_value.specs.Value.{Started}
 use Rattle.body_value.proofs.Plans.{legal}
 use Rattle.body_walk.specs.Standing.{part, Fit, Stand, Along}
@@ -47,12 +47,12 @@ read_none : (S : Settings) (tables : List ℤ) (n : ℕ) (x : List ℤ) (l : Lis
 unfolding read_body
 read_none S tables n x l = refl
 
-module _ {P : Plan} (q : Planned P) where
+module _ (P : Plan) where
   walkable : (P.settings.image.sequential ≡ false) → 0 < P.settings.image.interleave
-  walkable u = let i = ((legal q).image.interleaved u).0 in omega arith
+  walkable u = let i = ((legal P).image.interleaved u).0 in omega arith
 
-  places_few : length (order P.settings.image) ≤ most_samples
-  places_few = omega (arith, length_order P.settings.image walkable, (limited_facts P.settings.image q.within).few_samples)
+  places_few : limited P.settings.image ≡ true → length (order P.settings.image) ≤ most_samples
+  places_few h = omega (arith, length_order P.settings.image walkable, (limited_facts P.settings.image h).few_samples)
 
   along : Along (λ b. 0) (order P.settings.image)
   along = along_order P.settings.image walkable
@@ -68,27 +68,25 @@ module _ {P : Plan} {tables scratch s : List ℤ} (q : Tabled P tables scratch) 
 
   pub writes : {samples : List ℤ} {k : Tail} {out : List ℕ} → Starts P tables samples scratch k → Writable P samples (writer_at s k out) (order P.settings.image)
   writes {samples} {k} h = record {
-    plan = q.plan;
     image = h.image;
     fit = fit;
-    room = let f = places_few q.plan in let a = h.at in let few = k.few in omega arith;
+    room = let f = places_few P h.image.within in let a = h.at in let few = k.few in omega arith;
   }
 
   pub written : {samples : List ℤ} {k k' : Tail} {out out' : List ℕ} {s' : List ℤ}
       → Moved P samples (writer_at s k out) (order P.settings.image) (writer_at s' k' out') → Put k out (body P.settings tables samples) k' out'
   unfolding body
-  written {samples} m = put_as (m.means tables (λ z. 0) (stand (image_of P.settings.image samples)) (along q.plan)).0 m.put
+  written {samples} m = put_as (m.means tables (λ z. 0) (stand (image_of P.settings.image samples)) (along P)).0 m.put
 
   -- ---- read
 
   pub reads : {samples : List ℤ} {at : ℕ} → ReadStarts P tables samples scratch at
       → Readable P (reader_at samples s (record { at = at; rank = 0 })) (order P.settings.image)
   reads h = record {
-    plan = q.plan;
     image = h.image;
     fit = fit;
-    room = let f = places_few q.plan in let a = h.at_most in omega arith;
-    count = let f = places_few q.plan in omega arith;
+    room = let f = places_few P h.image.within in let a = h.at_most in omega arith;
+    count = let f = places_few P h.image.within in omega arith;
   }
 
   module _ (samples : List ℤ) (F : List Bool) (at : ℕ) (x' s' : List ℤ) where
@@ -98,8 +96,8 @@ module _ {P : Plan} {tables scratch s : List ℤ} (q : Tabled P tables scratch) 
 
     pub answered : (r : Result Cursor Refusal) → Went P F (reader_at samples s (record { at = at; rank = 0 })) (order P.settings.image) x' s' r → Answer P.settings tables F at samples x' r
     answered (Ok c) m = record {
-      read = all ∙ (m.means tables (λ z. 0) (stand (image_of P.settings.image samples)) (along q.plan)).0 [] ∙ read_none P.settings tables c.rank x' (drop c.at F);
+      read = all ∙ (m.means tables (λ z. 0) (stand (image_of P.settings.image samples)) (along P)).0 [] ∙ read_none P.settings tables c.rank x' (drop c.at F);
       good = record { long = m.image.long; in_range_lem = all_ranged m.image };
       inside = m.inside;
     }
-    answered (Err r) m = all ∙ m.means tables (λ z. 0) (stand (image_of P.settings.image samples)) (along q.plan) []
+    answered (Err r) m = all ∙ m.means tables (λ z. 0) (stand (image_of P.settings.image samples)) (along P) []

@@ -17,7 +17,6 @@ use Rattle.body_walk.proofs.Standings.{lent_is, back_fits, stands}
 module _ {P : Plan} {samples s : List ℤ} {k : Tail} {out : List ℕ} {p : value.Place} (r : Writable P samples (writer_at s k out) (one_place p)) (h : Inside P p) where
   pub writing : Writing P samples (take (32 * p.z + 32 - 32 * p.z) (drop (32 * p.z) s)) k p
   writing = record {
-    plan = r.plan;
     image = r.image;
     here = h;
     fits = rw (lent_is s p.z) (r.fit.each p.z h.band_in);
@@ -38,6 +37,6 @@ module _ {P : Plan} {samples s : List ℤ} {k : Tail} {out : List ℕ} {p : valu
         let m = w.means tables (rw (lent_is s p.z) u) in (
           m.0 ∙ sym (append-nil (code P.settings tables (image_of P.settings.image samples) (record { z = p.z; t = p.t }))),
           stands (image_of P.settings.image samples) (image_of P.settings.image samples) (record { z = p.z; t = p.t }) h.band_in h.place_in
-              (legal r.plan).image.nx_least r.fit.long w.fits.long st al.0 (λ b q e y i c d. refl) m.1,
+              (legal P).image.nx_least r.fit.long w.fits.long st al.0 (λ b q e y i c d. refl) m.1,
         );
   }

@@ -6,7 +6,6 @@ use Rattle.settings.specs.Lists.{join}
 use Rattle.settings.specs.ListLaws.{join_append, join_shift, join_ext, join_last}
 use Rattle.body.specs.Order.{Place, column_of, row_of, band_sequential, sub_frames, frame_of, band_interleaved, order}
 use Rattle.body_value.specs.declared.plan.Plan.{Plan}
-use Rattle.body_value.specs.Plan.{Planned}
 use Rattle.body_value.proofs.Plans.{legal}
 use Rattle.body_walk.specs.declared.rows.Row.{Row}
 use Rattle.body_walk.specs.Rows.{row_count, row_at, row_places, places_in, InRow}
@@ -79,7 +78,7 @@ at_frame_min I n e m z {to} h =
     let k : start + min I.interleave (I.nz - start) ≡ to = omega arith in
     at_frame I n e ∙ ap (λ (o : ℕ). record { y = n / sub_frames I.nz I.interleave; from = start; to = o }) k
 
-module _ {P : Plan} (q : Planned P) where
+module _ (P : Plan) where
   abbrev I : Image
   I = P.settings.image
 
@@ -88,11 +87,11 @@ module _ {P : Plan} (q : Planned P) where
     where
       go : (b : Bool) → I.sequential ≡ b → InRow P (row_at I n)
       go true e =
-          let k = band_below I n (legal q).image.ny_least (let c = count_bands I n e in omega arith) in
-          rw (at_band I n e) (record { y_in = mod-lt n (legal q).image.ny_least; order = omega arith; within = omega arith })
+          let k = band_below I n (legal P).image.ny_least (let c = count_bands I n e in omega arith) in
+          rw (at_band I n e) (record { y_in = mod-lt n (legal P).image.ny_least; order = omega arith; within = omega arith })
       go false e =
-          let m = ((legal q).image.interleaved e).0 in
-          let z = (legal q).image.nz_least in
+          let m = ((legal P).image.interleaved e).0 in
+          let z = (legal P).image.nz_least in
           let f = from_below I n m z in
           let y = frame_below I n m z (let c = count_frames I n e in omega arith) in
           rw (at_frame I n e) (record { y_in = y; order = omega arith; within = omega arith })
@@ -147,14 +146,14 @@ module _ {P : Plan} (q : Planned P) where
 
 -- ---- a row of the walk
 
-module _ {P : Plan} (q : Planned P) (n : ℕ) {r : Row} (e : r ≡ row_at P.settings.image n) where
+module _ (P : Plan) (n : ℕ) {r : Row} (e : r ≡ row_at P.settings.image n) where
   -- its columns, by the width that the plan holds
   pub columns_are : places_in P.settings.image n ≡ join (λ x. column_of (r.y * P.nx + x) r.from (r.to - r.from)) 0 (P.nx - 0)
   unfolding places_in row_of
   columns_are =
-      let w : P.settings.image.nx ≡ P.nx - 0 = let m = q.nx_is in omega arith in
+      let w : P.settings.image.nx ≡ P.nx - 0 = let m = P.planned.nx_is in omega arith in
       ap (row_places P) (sym e) ∙ ap (join (λ x. column_of (r.y * P.settings.image.nx + x) r.from (r.to - r.from)) 0) w
-      ∙ ap (λ (m : ℕ). join (λ x. column_of (r.y * m + x) r.from (r.to - r.from)) 0 (P.nx - 0)) (sym q.nx_is)
+      ∙ ap (λ (m : ℕ). join (λ x. column_of (r.y * m + x) r.from (r.to - r.from)) 0 (P.nx - 0)) (sym P.planned.nx_is)
 
   pub row_inside : {count : ℕ} → n < count → count ≡ row_count P.settings.image → InRow P r
-  row_inside h k = rw e (row_in q n (omega arith))
+  row_inside h k = rw e (row_in P n (omega arith))

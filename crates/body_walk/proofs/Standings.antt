@@ -1,10 +1,9 @@
 -- Where the bands stand: behind a place its band stands one further on; behind places, as behind one after the other.
-use Rattle.std.proofs.Common.{◌≡◌, sym, ◌∙◌, ap, List, [], ◌∷◌, ℕ, zero, suc, ◌+◌, ◌-◌, ◌*◌, ◌<◌, ◌≤◌, mul_comm, mul-le-mul_right, suc-mul, arith, ℤ, length, take, drop, length-take, length-drop, take_at, drop_at, length-take-le, take-take, drop-drop, eq-eqb, ne_eqb}
+use Rattle.std.proofs.Common.{◌≡◌, sym, ◌∙◌, ap, List, [], ◌∷◌, ℕ, zero, suc, ◌+◌, ◌-◌, ◌*◌, ◌^◌, ◌<◌, ◌≤◌, mul_comm, mul-le-mul_right, suc-mul, arith, ℤ, length, take, drop, length-take, length-drop, take_at, drop_at, length-take-le, take-take, drop-drop, eq-eqb, ne_eqb}
 use native.Mathlib.Decide.{ℕ_discrete}
 use lib.Arith.{digits_lt, digits_mod}
 use lib.Seq.{take-nil}
 use borrow.Rule.Slice.PartMut.{put_mid, take_put, drop_put, same_len_mid}
-use Rattle.settings.specs.Limits.{most_samples}
 use Rattle.settings.specs.declared.Settings.{Settings}
 use Rattle.predictor.specs.Differences.{Image}
 use Rattle.predictor.specs.Band.{mapped_at}
@@ -13,9 +12,9 @@ use Rattle.coder.specs.StatisticsLaws.{statistics_same}
 use Rattle.body.specs.Order.{Place}
 use Rattle.body_value.specs.declared.plan.Plan.{Plan}
 use Rattle.body_value.specs.declared.Place as value
-use Rattle.body_value.specs.Plan.{Planned, Inside}
+use Rattle.body_value.specs.Plan.{Inside}
 use Rattle.body_value.specs.Value.{Fits, Held}
-use Rattle.body_value.proofs.Plans.{area_few}
+use Rattle.body_value.proofs.Plans.{area_fits}
 use Rattle.body_walk.specs.declared.rows.Row.{Row}
 use Rattle.body_walk.specs.Rows.{InRow, Strip}
 use Rattle.body_walk.specs.Standing.{part, Fit, Stand, Next, bump}
@@ -133,21 +132,26 @@ module _ {S : Settings} {tables : List ℤ} {s l : List ℤ} {f : ℕ → ℕ} (
 
 -- ---- places of rows
 
-module _ {P : Plan} (q : Planned P) {r : Row} (h : InRow P r) {x : ℕ} (k : x < P.nx) where
+module _ (P : Plan) {r : Row} (h : InRow P r) {x : ℕ} (k : x < P.nx) where
   x_in : x < P.settings.image.nx
-  x_in = let e = q.nx_is in omega arith
+  x_in = let e = P.planned.nx_is in omega arith
 
   place_in : r.y * P.settings.image.nx + x < P.settings.image.nx * P.settings.image.ny
   place_in = rw (mul_comm P.settings.image.nx P.settings.image.ny) (digits_lt h.y_in x_in)
 
   pub strip : Strip P (record { z = r.from; t = r.y * P.nx + x; x = x }) r.to
-  strip = rw q.nx_is (record { order = h.order; within = h.within; place_in = place_in; column_is = sym (digits_mod r.y x_in) })
+  strip = record {
+    order = h.order;
+    within = h.within;
+    place_in = rw P.planned.nx_is place_in;
+    column_is = rw P.planned.nx_is (sym (digits_mod r.y x_in));
+  }
 
 -- the numbers of a row's places are small
-pub row_small : {P : Plan} → Planned P → {r : Row} → InRow P r → r.y * P.nx + P.nx ≤ most_samples
-row_small {P} q {r} h =
-    let a = area_few P.settings q.legal q.within in
-    let e : r.y * P.nx + P.nx ≡ r.y * P.settings.image.nx + P.settings.image.nx = ap (λ (n : ℕ). r.y * n + n) q.nx_is in
+pub row_small : (P : Plan) {r : Row} → InRow P r → r.y * P.nx + P.nx ≤ 2 ^ 32
+row_small P {r} h =
+    let a = area_fits P.settings P.planned.legal in
+    let e : r.y * P.nx + P.nx ≡ r.y * P.settings.image.nx + P.settings.image.nx = ap (λ (n : ℕ). r.y * n + n) P.planned.nx_is in
     let i : suc r.y * P.settings.image.nx ≤ P.settings.image.ny * P.settings.image.nx = mul-le-mul_right P.settings.image.nx h.y_in in
     omega (arith, suc-mul r.y P.settings.image.nx, mul_comm P.settings.image.nx P.settings.image.ny)
 

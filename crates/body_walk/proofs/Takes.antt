@@ -18,7 +18,6 @@ use Rattle.body_walk.proofs.Standings.{lent_is, back_fits, stands}
 module _ {P : Plan} {x s : List ℤ} {c : Cursor} {p : value.Place} (r : Readable P (reader_at x s c) (one_place p)) (h : Inside P p) where
   pub reading : Reading P x (take (32 * p.z + 32 - 32 * p.z) (drop (32 * p.z) s)) c p
   reading = record {
-    plan = r.plan;
     image = r.image;
     here = h;
     fits = rw (lent_is s p.z) (r.fit.each p.z h.band_in);
@@ -43,7 +42,7 @@ module _ {P : Plan} {x s : List ℤ} {c : Cursor} {p : value.Place} (r : Readabl
           let m = w.means tables (held_here tables f st al) in (
             m.0,
             stands (image_of P.settings.image x) (image_of P.settings.image x') (record { z = p.z; t = p.t }) h.band_in h.place_in
-                (legal r.plan).image.nx_least r.fit.long w.fits.long st al.0
+                (legal P).image.nx_least r.fit.long w.fits.long st al.0
                 (λ b q e y i u v.
                 rw w.stored
                 (stored_other P.settings.image x p.z p.t w.value h.place_in y i (let a = st.within b q in omega arith)

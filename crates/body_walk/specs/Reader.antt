@@ -9,7 +9,6 @@ use Rattle.body.specs.Order.{Place}
 use Rattle.body.specs.Body.{read_body}
 use Rattle.body_value.specs.declared.plan.Plan.{Plan}
 use Rattle.body_value.specs.declared.Cursor.{Cursor}
-use Rattle.body_value.specs.Plan.{Planned}
 use Rattle.body_walk.specs.Direction.{State}
 use Rattle.body_walk.specs.Standing.{Fit, Stand, after, Along}
 
@@ -24,7 +23,6 @@ reader_at samples scratch c = record { samples = samples; scratch = scratch; cur
 
 -- the places ps may be read
 pub record Readable (P : Plan) (s : ReaderState) (ps : List Place) : Type 0 where
-  pub plan : Planned P
   pub image : asks.Given P.settings s.samples
   pub fit : Fit P s.scratch
   pub room : s.cursor.at + 64 * length ps ≤ 2 * file_ceiling

@@ -40,7 +40,6 @@ module _ (P : Plan) (F : List Bool) where
   go_on {ps = ps} qs rs r m =
       let l : length (ps ++ (qs ++ rs)) ≡ length ps + (length qs + length rs) = rw (length-append ps (qs ++ rs), length-append qs rs) in
       record {
-        plan = r.plan;
         image = m.image;
         fit = m.fit;
         room = let u = r.room in let v = m.few in omega arith;

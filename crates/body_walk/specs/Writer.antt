@@ -8,7 +8,6 @@ use Rattle.predictor.specs.Asks as asks
 use Rattle.body.specs.Order.{Place}
 use Rattle.body.specs.Body.{codes}
 use Rattle.body_value.specs.declared.plan.Plan.{Plan}
-use Rattle.body_value.specs.Plan.{Planned}
 use Rattle.body_walk.specs.Direction.{State}
 use Rattle.body_walk.specs.Standing.{Fit, Stand, after, Along}
 
@@ -23,7 +22,6 @@ writer_at scratch tail out = record { scratch = scratch; tail = tail; out = out 
 
 -- the places ps may be written
 pub record Writable (P : Plan) (samples : List ℤ) (w : WriterState) (ps : List Place) : Type 0 where
-  pub plan : Planned P
   pub image : asks.Given P.settings samples
   pub fit : Fit P w.scratch
   pub room : 8 * w.tail.at + w.tail.count + 64 * length ps ≤ file_ceiling

@@ -55,7 +55,6 @@ module _ (P : Plan) (samples : List ℤ) where
   go_on {ps = ps} qs rs r m =
       let l : length (ps ++ (qs ++ rs)) ≡ length ps + (length qs + length rs) = rw (length-append ps (qs ++ rs), length-append qs rs) in
       record {
-        plan = r.plan;
         image = r.image;
         fit = m.fit;
         room = let u = r.room in let v = m.put.size in let w = m.few in omega arith;

@@ -3,7 +3,7 @@ ghost use Rattle.std.specs.Prelude.{◌≡◌, List, MatchResult};
 ghost use Rattle.body.specs.Order.{order};
 ghost use Rattle.body.specs.Order as coding;
 ghost use Rattle.body_value.specs.declared.plan.Plan as plans;
-ghost use Rattle.body_value.specs.Plan.{Planned, Inside};
+ghost use Rattle.body_value.specs.Plan.{Inside};
 ghost use Rattle.body_walk.specs.Rows.{one_place};
 ghost use Rattle.body_walk.specs.Direction.{State, state_at, WalkLaws};
 
@@ -58,7 +58,6 @@ pub fn walk<D: Direction>(
     scratch: &mut [i32],
     filled: &mut [D::Item],
 ) -> Result<D::At, D::Stop>
-    requires planned { Planned p }
     requires plan { D.plan d.now ≡ p }
     requires ready { D.ready d.now (state_at scratch.old filled.old at) (order p.settings.image) }
     ensures { MatchResult result

@@ -28,7 +28,7 @@ pub fn write_body(
     write_rows(p, image, scratch, tail, out)
 }
 
-// The body from bit `at` of the file, into an image all in range before.
+// The body from bit `at` of the file, into an image all in range before. From there on the position is the cursor's.
 pub fn read_body(
     p: Plan,
     tables: &[i32],

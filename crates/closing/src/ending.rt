@@ -4,9 +4,9 @@ ghost use Rattle.bitstream.specs.Stream.{unpack, zeros};
 ghost use Rattle.header.specs.Fields.{same};
 ghost use Rattle.closing.specs.Ending.{end_of};
 
-use bitstream::read::window;
+use bitstream::read::Bits;
 
-// Why a file does not end where its fill does: it ends before, or something else stands there or behind.
+// Why a file does not end where its fill does: it ends before, or something else stands there or end.
 #[derive(Clone, Copy)]
 pub enum WrongEnd {
     TooShort,
@@ -14,33 +14,33 @@ pub enum WrongEnd {
 }
 
 // Whether the next bits, at most 32 of them and all there, are zero.
-fn zero_field(file: &[u8], at: usize, count: u32) -> bool
-    requires { (count ≤ 32) × (at + count ≤ length (unpack file.now)) }
-    ensures { result ≡ same (take count (drop at (unpack file.now))) (zeros count) }
+fn zero_field(bits: Bits, count: u32) -> bool
+    requires { (count ≤ 32) × (bits.at + count ≤ length (unpack bits.file.now)) }
+    ensures { result ≡ same (take count (drop bits.entry.at (unpack bits.entry.file.now))) (zeros count) }
 {
     if count == 0 {
         return true;
     }
-    (window(file, at) >> (64 - count)) == 0
+    (bits.window() >> (64 - count)) == 0
 }
 
-// What stands behind the body, which ends at bit `end`. Lengths are compared in bytes: in bits a slice's may not fit a word.
-pub fn end_of(file: &[u8], end: usize, word: u32) -> Result<(), WrongEnd>
-    requires { (1 ≤ word) × (word ≤ 8) × (end ≤ 2 ^ 61) × (end ≤ length (unpack file.now)) }
-    ensures { result ≡ end_of word end (drop end (unpack file.now)) }
+// What stands behind the body, from its end on. Lengths are compared in bytes: in bits a slice's may not fit a word.
+pub fn end_of(end: Bits, word: u32) -> Result<(), WrongEnd>
+    requires { (1 ≤ word) × (word ≤ 8) × (end.at ≤ 2 ^ 61) × (end.at ≤ length (unpack end.file.now)) }
+    ensures { result ≡ end_of word end.entry.at (drop end.entry.at (unpack end.entry.file.now)) }
 {
     let unit = 8 * word as usize;
-    let fill = ((unit - end % unit) % unit) as u32;
-    let last = (end + fill as usize) / 8;
-    if file.len() < last {
+    let fill = ((unit - end.at % unit) % unit) as u32;
+    let last = (end.at + fill as usize) / 8;
+    if end.file.len() < last {
         return Err(WrongEnd::TooShort);
     }
-    if last < file.len() {
+    if last < end.file.len() {
         return Err(WrongEnd::Behind);
     }
     let half = fill / 2;
-    if zero_field(file, end, half) {
-        if zero_field(file, end + half as usize, fill - half) {
+    if zero_field(end, half) {
+        if zero_field(end.behind(half as usize), fill - half) {
             return Ok(());
         }
     }

@@ -22,8 +22,6 @@ use Rattle.header.specs.Sizes.{most_header_bits}
 use Rattle.header.specs.SizeLaws.{header_bits_most}
 use Rattle.body.specs.Body.{body}
 use Rattle.body_value.specs.declared.plan.Plan.{Plan}
-use Rattle.body_value.specs.Plan.{plan_of}
-use Rattle.body_value.proofs.Plans.{planned}
 use Rattle.body_walk.specs.Whole.{Starts}
 use Rattle.cube.specs.File.{file_bits, file}
 use Rattle.cube.specs.Writing.{Written}
@@ -50,20 +48,20 @@ file_written S tables samples {t0} {t1} {t2} {t3} {o} {o1} {o2} {o3} {o4} n star
 
 -- ---- what each step asks for
 
-pub fine_starts : (S : Settings) (P : Plan) (tables samples scratch scratch' : List ℤ) (k : Tail) → Fine S tables samples (length scratch) → P ≡ plan_of S
+pub fine_starts : (S : Settings) (P : Plan) (tables samples scratch scratch' : List ℤ) (k : Tail) → Fine S tables samples (length scratch) → P.settings ≡ S
     → length scratch' ≡ length scratch → k.at ≤ 2 ^ 32 → Starts P tables samples scratch' k
-unfolding plan_of
-fine_starts S P tables samples scratch scratch' k f p l a = rw p (record {
-  tabled = record { plan = planned S f.legal f.small; values = f.values; area = f.room.tables_hold; long = let h = f.room.scratch_holds in omega arith };
-  image = record { legal = f.legal; within = f.small; long = f.counted; ranged = all_in_range S.image samples f.in_range_lem };
-  at = a;
-})
+fine_starts S P tables samples scratch scratch' k fine p l a =
+    let f : Fine P.settings tables samples (length scratch) = rw p fine in
+    record {
+      tabled = record { values = f.values; area = f.room.tables_hold; long = let h = f.room.scratch_holds in omega arith };
+      image = record { legal = f.legal; within = f.small; long = f.counted; ranged = all_in_range P.settings.image samples f.in_range_lem };
+      at = a;
+    }
 
 -- the body of the plan's settings
-pub body_of : (S : Settings) (P : Plan) (tables samples : List ℤ) {k k' : Tail} {o o' : List ℕ} → P ≡ plan_of S → Put k o (body P.settings tables samples) k' o'
+pub body_of : (S T : Settings) (tables samples : List ℤ) {k k' : Tail} {o o' : List ℕ} → T ≡ S → Put k o (body T tables samples) k' o'
     → Put k o (body S tables samples) k' o'
-unfolding plan_of
-body_of S P tables samples p h = put_as (ap (λ (Q : Plan). body Q.settings tables samples) p) h
+body_of S T tables samples p h = put_as (ap (λ (Q : Settings). body Q tables samples) p) h
 
 -- where the stream stands behind the header, and behind the body
 pub headed_small : (S : Settings) (tables samples : List ℤ) (n : ℕ) {t0 t1 : Tail} {o o1 : List ℕ} → Fine S tables samples n

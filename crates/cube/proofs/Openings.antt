@@ -32,8 +32,6 @@ use Rattle.body.specs.Order.{Place, order}
 use Rattle.body.specs.OrderLaws.{inside_order, sorted_order}
 use Rattle.body.specs.BodyLaws.{places_written}
 use Rattle.body_value.specs.declared.plan.Plan.{Plan}
-use Rattle.body_value.specs.Plan.{plan_of}
-use Rattle.body_value.proofs.Plans.{planned}
 use Rattle.body_walk.specs.Whole.{ReadStarts, Answer}
 use Rattle.predictor.specs.Differences.{image_of}
 use Rattle.body.specs.Body.{codes, mapped_off, restored, read_body}
@@ -309,31 +307,27 @@ module _ (bytes : List ℕ) (scratch tables image : List ℤ) (S : Settings) (at
     pub tables_long : m ≡ length (take m t1)
     tables_long = sym (ap length tables_front ∙ h_long)
 
-    pub begun_starts : (P : Plan) (scratch' : List ℤ) → P ≡ plan_of S → length scratch' ≡ length scratch → ReadStarts P (take m t1) (take n (z ++ drop n image)) scratch' at
-    unfolding plan_of
+    pub begun_starts : (P : Plan) (scratch' : List ℤ) → P.settings ≡ S → length scratch' ≡ length scratch → ReadStarts P (take m t1) (take n (z ++ drop n image)) scratch' at
     begun_starts P scratch' p l =
         let legal = begun_legal bytes scratch tables image S at b in
-        let within = begun_limited bytes scratch tables image S at b in
-        rw (p, tables_front, front) (record {
+        rw (tables_front, front) (record {
           tabled = record {
-            plan = planned S legal within;
-            values = h_entries;
-            area = let k = h_long in omega arith;
-            long = let k = L.areas.scratch_holds in omega arith;
+            values = rw p h_entries;
+            area = let k = h_long in rw p (omega arith);
+            long = let k = L.areas.scratch_holds in rw p (omega arith);
           };
-          image = record {
+          image = rw p (record {
             legal = legal;
-            within = within;
+            within = begun_limited bytes scratch tables image S at b;
             long = length-replicate (sample_count S.image) (pos 0);
             ranged = λ i _. (zeros_good S (deep S legal)).in_range_lem i;
-          };
+          });
           at_most = let k = position_small bytes scratch tables image h at b.read b.fits h_room h_roomy in omega arith;
         })
 
-    pub begun_outcome : (P : Plan) → P ≡ plan_of S → (x : List ℤ) (g : Result Cursor Refusal) → Answer P.settings (take m t1) (unpack bytes) at (take n (z ++ drop n image)) x g
+    pub begun_outcome : (R : Settings) → R ≡ S → (x : List ℤ) (g : Result Cursor Refusal) → Answer R (take m t1) (unpack bytes) at (take n (z ++ drop n image)) x g
         → Outcome bytes (lent_of scratch tables image) S h.tables x g
-    unfolding plan_of
-    begun_outcome P p x g a =
+    begun_outcome R p x g a =
         subst (λ (T : Settings). Answer T h.tables (unpack bytes) at (replicate (sample_count T.image) (pos 0)) x g → Outcome bytes (lent_of scratch tables image) T h.tables x g) b.settings
         (outcome bytes scratch tables image h at b.read b.fits h_room h_roomy x g)
         (rw (p, tables_front, front) at a)

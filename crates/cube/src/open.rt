@@ -6,6 +6,7 @@ ghost use Rattle.header_reader.specs.Answers.{Begins};
 ghost use Rattle.cube.specs.Areas.{Opens};
 ghost use Rattle.cube.specs.Opening.{answer_of, Reached, Lendable};
 
+use bitstream::read::Bits;
 use body_value::Cursor;
 use body_value::plan::plan_of;
 use body_walk::whole::read_body;
@@ -26,14 +27,16 @@ fn answer_of(file: &[u8], s: Settings, body: Result<Cursor, Refusal>) -> Result<
 {
     let end = body?;
     let count = sample_count(s.image);
-    match end_of(file, end.at, s.image.word) {
+    let behind = Bits { file, at: end.at };
+    match end_of(behind, s.image.word) {
         Ok(()) => Ok(s),
         Err(WrongEnd::TooShort) => Err(Refusal::BodyEnds(count)),
         Err(WrongEnd::Behind) => Err(Refusal::AfterEnd(count)),
     }
 }
 
-// Tables and body into areas that are long enough; what is refused leaves both areas cleared whole.
+// Tables and body into areas that are long enough; what is refused leaves both areas cleared whole. The file goes beside the position
+// behind its header: tables and end are read off it at positions of their own.
 fn open_body(
     file: &[u8],
     s: Settings,

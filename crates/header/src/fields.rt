@@ -8,31 +8,31 @@ ghost use Rattle.header.specs.FieldLaws.{total};
 ghost use Rattle.header.specs.Plain.{fitting};
 ghost use Rattle.header.specs.Writing.{fields_of};
 
-use bitstream::read::get;
+use bitstream::read::Bits;
 use bitstream::write::Tail;
 use integers::power_of;
 
 // The number of `width` bits at a position, all of them in the file.
-pub fn number_at(file: &[u8], at: usize, width: u32) -> u32
-    requires { (0 < width) × (width ≤ 32) × (at ≤ 2 ^ 62) × (at + width ≤ length (unpack file.now)) }
-    ensures { result ≡ number (take width (drop at (unpack file.now))) }
+pub fn number_at(bits: Bits, width: u32) -> u32
+    requires { (0 < width) × (width ≤ 32) × (bits.at ≤ 2 ^ 62) × (bits.at + width ≤ length (unpack bits.file.now)) }
+    ensures { result ≡ number (take width (drop bits.entry.at (unpack bits.entry.file.now))) }
 {
-    match get(file, at, width) {
+    match bits.get(width) {
         Ok((value, _)) => value,
         Err(_) => 0,
     }
 }
 
 // The numbers of fields of these widths, one after the other.
-pub fn numbers(file: &[u8], at: usize, widths: &[u32], values: &mut [u32])
-    requires { (fitting widths.now ≡ true) × (length values.old ≡ length widths.now) × (at ≤ 2 ^ 61) × (total widths.now ≤ 2 ^ 61) × (at + total widths.now ≤ length (unpack file.now)) }
-    ensures { values.new ≡ split widths.now (drop at (unpack file.now)) }
+pub fn numbers(bits: Bits, widths: &[u32], values: &mut [u32])
+    requires { (fitting widths.now ≡ true) × (length values.old ≡ length widths.now) × (bits.at ≤ 2 ^ 61) × (total widths.now ≤ 2 ^ 61) × (bits.at + total widths.now ≤ length (unpack bits.file.now)) }
+    ensures { values.new ≡ split widths.now (drop bits.entry.at (unpack bits.entry.file.now)) }
 {
-    let mut next = at;
+    let mut rest = bits;
     for (i, value) in values.iter_mut().enumerate() {
         let width = widths[i];
-        *value = number_at(file, next, width);
-        next += width as usize;
+        *value = number_at(rest, width);
+        rest = rest.behind(width as usize);
     }
 }
 

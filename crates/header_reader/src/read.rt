@@ -12,6 +12,7 @@ ghost use Rattle.header.specs.Read.{read_image, read_predictor, read_weights, re
 ghost use Rattle.header_values.specs.Progress.{ImageDone, PredictorDone, WeightsDone, CoderDone};
 ghost use Rattle.header_reader.specs.Answers.{image_read, predictor_read, coder_read, table_read, HeaderMeans};
 
+use bitstream::read::Bits;
 use header::fields::{number_at, numbers};
 use header::places;
 use header::sizes::{
@@ -22,7 +23,7 @@ use refusals::Refusal;
 use settings::legal::{coder_legal, image_legal, limited, predictor_legal};
 use settings::{Coder, Image, Predictor, Settings};
 
-// The file ends before a position in bits. It is compared in bytes: the length in bits may not fit a word.
+// The file ends before a position in bits, at which nothing is read. It is compared in bytes: the length in bits may not fit a word.
 fn ends_before(file: &[u8], end: usize) -> bool
     requires { end ≤ 4 * table_ceiling }
     ensures { result ≡ ltb (length (unpack file.now)) end }
@@ -31,12 +32,12 @@ fn ends_before(file: &[u8], end: usize) -> bool
 }
 
 // The numbers of a table's fields, from a position on.
-fn numbers_of<const N: usize>(file: &[u8], at: usize, widths: &[u32; N]) -> [u32; N]
-    requires { (fitting widths.now ≡ true) × (at ≤ 2 * table_ceiling) × (total widths.now ≤ 2 ^ 61) × (at + total widths.now ≤ length (unpack file.now)) }
-    ensures { result ≡ split widths.now (drop at (unpack file.now)) }
+fn numbers_of<const N: usize>(bits: Bits, widths: &[u32; N]) -> [u32; N]
+    requires { (fitting widths.now ≡ true) × (bits.at ≤ 2 * table_ceiling) × (total widths.now ≤ 2 ^ 61) × (bits.at + total widths.now ≤ length (unpack bits.file.now)) }
+    ensures { result ≡ split widths.now (drop bits.entry.at (unpack bits.entry.file.now)) }
 {
     let mut values = [0; N];
-    numbers(file, at, widths, &mut values);
+    numbers(bits, widths, &mut values);
     values
 }
 
@@ -47,7 +48,8 @@ fn read_image(file: &[u8]) -> Result<Image, Refusal>
     if ends_before(file, IMAGE_BITS) {
         return Err(Refusal::EndsInHeader);
     }
-    let v = numbers_of(file, 0, &places::IMAGE_WIDTHS);
+    let fields = Bits { file, at: 0 };
+    let v = numbers_of(fields, &places::IMAGE_WIDTHS);
     let image = image_of(v);
     if !(image_legal(image) & image_plain(v)) {
         return Err(Refusal::IllegalField);
@@ -68,7 +70,11 @@ fn read_predictor(file: &[u8], image: Image) -> Result<Predictor, Refusal>
     if ends_before(file, PREDICTOR_END) {
         return Err(Refusal::EndsInHeader);
     }
-    let v = numbers_of(file, IMAGE_BITS, &places::PREDICTOR_WIDTHS);
+    let fields = Bits {
+        file,
+        at: IMAGE_BITS,
+    };
+    let v = numbers_of(fields, &places::PREDICTOR_WIDTHS);
     let predictor = predictor_of(v);
     if !(predictor_legal(image, predictor) & predictor_plain(v)) {
         return Err(Refusal::IllegalField);
@@ -77,14 +83,14 @@ fn read_predictor(file: &[u8], image: Image) -> Result<Predictor, Refusal>
 }
 
 // The two bytes from a position on: present, then their fields.
-fn read_coder(file: &[u8], at: usize, image: Image) -> Result<Coder, Refusal>
-    requires { at ≤ 2 * table_ceiling }
-    ensures { result ≡ coder_read (read_coder image (drop at (unpack file.now))) }
+fn read_coder(bits: Bits, image: Image) -> Result<Coder, Refusal>
+    requires { bits.at ≤ 2 * table_ceiling }
+    ensures { result ≡ coder_read (read_coder image (drop bits.entry.at (unpack bits.entry.file.now))) }
 {
-    if ends_before(file, at + CODER_BITS) {
+    if ends_before(bits.file, bits.at + CODER_BITS) {
         return Err(Refusal::EndsInHeader);
     }
-    let v = numbers_of(file, at, &places::CODER_WIDTHS);
+    let v = numbers_of(bits, &places::CODER_WIDTHS);
     let coder = coder_of(v);
     if !coder_legal(image, coder) {
         return Err(Refusal::IllegalField);
@@ -93,14 +99,14 @@ fn read_coder(file: &[u8], at: usize, image: Image) -> Result<Coder, Refusal>
 }
 
 // Fewer than eight bits from a position on are zero.
-fn fill_clear(file: &[u8], at: usize, width: usize) -> bool
-    requires { (width ≤ 7) × (at ≤ 2 * table_ceiling) × (at + width ≤ length (unpack file.now)) }
-    ensures { result ≡ eqb (number (take width (drop at (unpack file.now)))) 0 }
+fn fill_clear(bits: Bits, width: usize) -> bool
+    requires { (width ≤ 7) × (bits.at ≤ 2 * table_ceiling) × (bits.at + width ≤ length (unpack bits.file.now)) }
+    ensures { result ≡ eqb (number (take width (drop bits.entry.at (unpack bits.entry.file.now)))) 0 }
 {
     if width == 0 {
         return true;
     }
-    number_at(file, at, width as u32) == 0
+    number_at(bits, width as u32) == 0
 }
 
 // The weight table, where there is one: present, then its fill. Any value is a weight.
@@ -116,35 +122,39 @@ fn read_weights(file: &[u8], image: Image, predictor: Predictor) -> Result<(), R
     if ends_before(file, PREDICTOR_END + size) {
         return Err(Refusal::EndsInHeader);
     }
-    if !fill_clear(file, PREDICTOR_END + n, size - n) {
+    let fill = Bits {
+        file,
+        at: PREDICTOR_END + n,
+    };
+    if !fill_clear(fill, size - n) {
         return Err(Refusal::IllegalField);
     }
     Ok(())
 }
 
 // Every k' of a table is at most D − 2.
-fn entries_legal(file: &[u8], at: usize, image: Image) -> bool
-    requires { (2 ≤ image.depth) × (image.nz ≤ most_bands) × (at ≤ 2 * table_ceiling) × (at + 4 * image.nz ≤ length (unpack file.now)) }
-    ensures { result ≡ every image.nz (λ z. leb (number (take 4 (drop (at + 4 * z) (unpack file.now)))) (image.depth - 2)) }
+fn entries_legal(entries: Bits, image: Image) -> bool
+    requires { (2 ≤ image.depth) × (image.nz ≤ most_bands) × (entries.at ≤ 2 * table_ceiling) × (entries.at + 4 * image.nz ≤ length (unpack entries.file.now)) }
+    ensures { result ≡ every image.nz (λ z. leb (number (take 4 (drop (entries.entry.at + 4 * z) (unpack entries.entry.file.now)))) (image.depth - 2)) }
 {
     let most = image.depth - 2;
-    (0..image.nz as usize).all(|z| number_at(file, at + 4 * z, 4) <= most)
+    (0..image.nz as usize).all(|z| number_at(entries.behind(4 * z), 4) <= most)
 }
 
 // The table of k', where there is one: present, then its entries and its fill.
-fn read_accumulators(file: &[u8], at: usize, image: Image, coder: Coder) -> Result<(), Refusal>
-    requires { (2 ≤ image.depth) × (image.nz ≤ most_bands) × (at ≤ table_ceiling) × (at ≤ length (unpack file.now)) }
-    ensures { result ≡ table_read (read_accumulators image coder (drop at (unpack file.now))) }
+fn read_accumulators(entries: Bits, image: Image, coder: Coder) -> Result<(), Refusal>
+    requires { (2 ≤ image.depth) × (image.nz ≤ most_bands) × (entries.at ≤ table_ceiling) × (entries.at ≤ length (unpack entries.file.now)) }
+    ensures { result ≡ table_read (read_accumulators image coder (drop entries.entry.at (unpack entries.entry.file.now))) }
 {
     if !coder.tabled {
         return Ok(());
     }
     let n = 4 * image.nz as usize;
     let size = padded(n);
-    if ends_before(file, at + size) {
+    if ends_before(entries.file, entries.at + size) {
         return Err(Refusal::EndsInHeader);
     }
-    if !(entries_legal(file, at, image) & fill_clear(file, at + n, size - n)) {
+    if !(entries_legal(entries, image) & fill_clear(entries.behind(n), size - n)) {
         return Err(Refusal::IllegalField);
     }
     Ok(())
@@ -157,14 +167,17 @@ pub fn read_header(file: &[u8]) -> Result<(Settings, usize), Refusal>
     let image = read_image(file)?;
     let predictor = read_predictor(file, image)?;
     read_weights(file, image, predictor)?;
-    let weighted = PREDICTOR_END + weights_size(image, predictor);
-    let coder = read_coder(file, weighted, image)?;
-    let coded = weighted + CODER_BITS;
-    read_accumulators(file, coded, image, coder)?;
+    let weighted = Bits {
+        file,
+        at: PREDICTOR_END + weights_size(image, predictor),
+    };
+    let coder = read_coder(weighted, image)?;
+    let coded = weighted.behind(CODER_BITS);
+    read_accumulators(coded, image, coder)?;
     let settings = Settings {
         image,
         predictor,
         coder,
     };
-    Ok((settings, coded + accumulators_size(image, coder)))
+    Ok((settings, coded.at + accumulators_size(image, coder)))
 }

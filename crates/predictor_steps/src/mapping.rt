@@ -4,6 +4,8 @@ ghost use Rattle.predictor.specs.Prediction.{predicted};
 ghost use Rattle.predictor.specs.Mapping.{theta, map_residual, unmap_residual, mapped_by, unmapped_by};
 ghost use Rattle.predictor.specs.Asks.{Sized, Ranged};
 
+use settings::range::Range;
+
 // The predicted sample value: half of the scaled one, rounded down.
 fn predicted(scaled: i64) -> i64
     ensures { result ≡ predicted scaled }
@@ -12,12 +14,12 @@ fn predicted(scaled: i64) -> i64
 }
 
 // The smaller distance of a prediction from the ends of the range.
-fn theta(low: i64, high: i64, prediction: i64) -> u64
-    requires { (nat_abs low ≤ 2 ^ 40) × (nat_abs high ≤ 2 ^ 40) × (nat_abs prediction ≤ 2 ^ 40) }
-    ensures { result ≡ theta low high prediction }
+fn theta(range: Range, prediction: i64) -> u64
+    requires { nat_abs prediction ≤ 2 ^ 40 }
+    ensures { result ≡ theta range.low range.high prediction }
 {
-    let below = integers::magnitude(prediction - low);
-    let above = integers::magnitude(high - prediction);
+    let below = integers::magnitude(prediction - (range.low as i64));
+    let above = integers::magnitude((range.high as i64) - prediction);
     below.min(above)
 }
 
@@ -59,28 +61,26 @@ fn unmap_by(even: bool, delta: u64, distance: u64, below: bool) -> i64
 }
 
 // The mapped value of a sample under its scaled prediction.
-pub fn map_residual(sample: i32, scaled: i64, low: i32, high: i32) -> u32
-    requires { Sized scaled low high × (nat_abs sample ≤ 2 ^ 29) }
-    ensures { result ≡ mapped_by low high scaled sample }
+pub fn map_residual(sample: i32, scaled: i64, range: Range) -> u32
+    requires { Sized scaled range.low range.high × (nat_abs sample ≤ 2 ^ 29) }
+    ensures { result ≡ mapped_by range.low range.high scaled sample }
 {
     let prediction = predicted(scaled);
-    let distance = theta(low as i64, high as i64, prediction);
+    let distance = theta(range, prediction);
     let even = integers::is_even(scaled);
     let residual = (sample as i64) - prediction;
     map_by(even, residual, distance) as u32
 }
 
 // The sample of a mapped value under its scaled prediction.
-pub fn unmap_residual(delta: u32, scaled: i64, low: i32, high: i32) -> i32
-    requires { Ranged scaled low high × (pos delta ≤ℤ (high -ℤ low)) }
-    ensures { result ≡ unmapped_by low high scaled delta }
+pub fn unmap_residual(delta: u32, scaled: i64, range: Range) -> i32
+    requires { Ranged scaled range.low range.high × (pos delta ≤ℤ (range.high -ℤ range.low)) }
+    ensures { result ≡ unmapped_by range.low range.high scaled delta }
 {
     let prediction = predicted(scaled);
-    let least = low as i64;
-    let most = high as i64;
-    let distance = theta(least, most, prediction);
+    let distance = theta(range, prediction);
     let even = integers::is_even(scaled);
-    let below = prediction - least <= most - prediction;
+    let below = prediction - (range.low as i64) <= (range.high as i64) - prediction;
     let residual = unmap_by(even, delta as u64, distance, below);
     (prediction + residual) as i32
 }

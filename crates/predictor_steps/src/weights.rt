@@ -43,22 +43,16 @@ pub fn step_weights(ws: &mut [i32], us: &[i32], rho: i32, up: bool, resolution: 
     }
 }
 
-// ρ at value t.
-pub fn exponent(
-    t: usize,
-    nx: usize,
-    interval_log: u32,
-    vmin: i32,
-    vmax: i32,
-    depth: u32,
-    resolution: u32,
-) -> i32
-    requires { Schedule t nx interval_log vmin vmax depth resolution }
-    ensures { (result ≡ exponent_by nx (2 ^ interval_log) vmin vmax depth resolution t) × (nat_abs result ≤ 30) }
+// ρ at value t, under settings whose interval is 2^interval_log.
+pub fn exponent(s: Settings, t: usize, interval_log: u32) -> i32
+    requires { Schedule t s.image.nx interval_log s.predictor.vmin s.predictor.vmax s.image.depth s.predictor.resolution }
+    ensures { (result ≡ exponent_by s.image.nx (2 ^ interval_log) s.predictor.vmin s.predictor.vmax s.image.depth s.predictor.resolution t) × (nat_abs result ≤ 30) }
 {
-    let turns = integers::floor_shift((t as i64) - (nx as i64), interval_log);
-    let clipped = integers::clip((vmin as i64) + turns, vmin as i64, vmax as i64);
-    (clipped + (depth as i64) - (resolution as i64)) as i32
+    let least = s.predictor.vmin as i64;
+    let most = s.predictor.vmax as i64;
+    let turns = integers::floor_shift((t as i64) - (s.image.nx as i64), interval_log);
+    let clipped = integers::clip(least + turns, least, most);
+    (clipped + (s.image.depth as i64) - (s.predictor.resolution as i64)) as i32
 }
 
 // Whether the scaled error is 0 or more, so that the weights step up.

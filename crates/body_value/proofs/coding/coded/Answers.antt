@@ -13,11 +13,11 @@ returns-then-t-eq0 c =
 
 pub next_statistics-new-requires : goal.next_statistics-new-requires
 next_statistics-new-requires c =
-    counting c.requires.plan c.requires.fit c.held-old.ensures c.requires.small
+    counting c.args.p c.requires.fit c.held-old.ensures c.requires.small
 
 pub keep-requires : goal.keep-requires
 keep-requires c =
-    keeping c.requires.plan c.requires.fit c.held-old.ensures c.requires.small c.next_statistics-new.ensures
+    keeping c.args.p c.requires.fit c.held-old.ensures c.requires.small c.next_statistics-new.ensures
 
 pub put_value-requires : goal.put_value-requires
 put_value-requires c =

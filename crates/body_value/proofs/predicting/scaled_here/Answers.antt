@@ -1,7 +1,6 @@
 -- The first value by the band before, a later one by its components.
-use Rattle.std.proofs.Common.{sym, arith, w64, SFits, to_z-of_z}
-use Rattle.integers.specs.Laws.{ok}
-use Rattle.body_value.proofs.Plans.{low_fits, middle_fits, high_fits}
+use Rattle.std.proofs.Common.{sym, arith, w64, to_z-of_z}
+use Rattle.integers.proofs.Laws.{ok}
 use Rattle.body_value.proofs.Predicts.{few, held_long, us_taken, terms, first_is, later_is}
 use Rattle.body_value.proofs.predicting.scaled_here.Goals as goal
 
@@ -15,7 +14,7 @@ slice_bounds-predict-end c =
 
 pub slice_bounds-predict-end-2 : goal.slice_bounds-predict-end-2
 slice_bounds-predict-end-2 c =
-    let e = c.component_count-n.ensures in let f = few c.requires.0.plan 0 c.args.place in let l = c.differences-sum.ensures.long in omega arith
+    let f = few c.args.p c.args.place in omega (arith, c.component_count-n.ensures, c.differences-sum.ensures.long)
 
 pub slice_bounds-predict-end-3 : goal.slice_bounds-predict-end-3
 slice_bounds-predict-end-3 c =
@@ -23,14 +22,11 @@ slice_bounds-predict-end-3 c =
 
 pub predict-requires : goal.predict-requires
 predict-requires c =
-    let sum_fits : SFits w64 c.differences-sum.result =
-    ok w64 c.differences-sum.result c.differences-sum.type_inv in
-    rw c.component_count-n.ensures (simp (to_z-of_z, sum_fits, middle_fits (c.requires.0.plan)) (terms c.requires.0 _ _ c.differences-sum.ensures.components_are c.differences-sum.ensures.sum_is))
+    let sum_fits = ok w64 c.differences-sum.result c.differences-sum.type_inv in
+    rw (c.component_count-n.ensures, to_z-of_z sum_fits) (terms c.requires.0 _ _ c.differences-sum.ensures.components_are c.differences-sum.ensures.sum_is)
 
 pub returns : goal.returns
 returns c =
-    let sum_fits : SFits w64 c.differences-sum.result =
-    ok w64 c.differences-sum.result c.differences-sum.type_inv in
-    let u = c.requires.0.plan in
+    let sum_fits = ok w64 c.differences-sum.result c.differences-sum.type_inv in
     rw (to_z-of_z (ok w64 c.predict.result c.predict.type_inv))
-    (later_is c.requires.0 _ _ _ (let n = c.if-place-eq0.false in omega arith) c.differences-sum.ensures (rw c.component_count-n.ensures at (simp (to_z-of_z, sum_fits, low_fits u, middle_fits u, high_fits u) at c.predict.ensures)))
+    (later_is c.requires.0 _ _ _ (omega (arith, c.if-place-eq0.false)) c.differences-sum.ensures (rw (c.component_count-n.ensures, to_z-of_z sum_fits) at c.predict.ensures))

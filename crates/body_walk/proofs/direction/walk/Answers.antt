@@ -13,20 +13,18 @@ pub loop-n-init : goal.loop-n-init
 loop-n-init g c =
     let l = g.met.D.Direction.laws c.args.d.now in
     let all : row_count c.args.p.settings.image ≡ c.row_count-count.result - 0 = let k = c.row_count-count.ensures in omega arith in
-    enter (order_is c.requires.planned ∙ ap (join (places_in c.args.p.settings.image) 0) all) (begin l (sym (append-nil (order c.args.p.settings.image))) c.requires.ready)
+    enter (order_is c.args.p ∙ ap (join (places_in c.args.p.settings.image) 0) all) (begin l (sym (append-nil (order c.args.p.settings.image))) c.requires.ready)
 
 pub loop-x-init : goal.loop-x-init
-loop-x-init g c = enter (columns_are c.requires.planned c.loop-n.n c.row_at-row.ensures) (first c.loop-n.invariant c.loop-n-test.true)
+loop-x-init g c = enter (columns_are c.args.p c.loop-n.n c.row_at-row.ensures) (first c.loop-n.invariant c.loop-n-test.true)
 
 pub overflow_mul-t : goal.overflow_mul-t
 overflow_mul-t g c =
-    let q = c.requires.planned in
-    let h = row_small q (row_inside q c.loop-n.n c.row_at-row.ensures c.loop-n-test.true c.row_count-count.ensures) in omega arith
+    let h = row_small c.args.p (row_inside c.args.p c.loop-n.n c.row_at-row.ensures c.loop-n-test.true c.row_count-count.ensures) in omega arith
 
 pub overflow_add-t : goal.overflow_add-t
 overflow_add-t g c =
-    let q = c.requires.planned in
-    let h = row_small q (row_inside q c.loop-n.n c.row_at-row.ensures c.loop-n-test.true c.row_count-count.ensures) in
+    let h = row_small c.args.p (row_inside c.args.p c.loop-n.n c.row_at-row.ensures c.loop-n-test.true c.row_count-count.ensures) in
     let x = c.loop-x-test.true in omega arith
 
 pub loop-z-init : goal.loop-z-init
@@ -35,10 +33,9 @@ loop-z-init g c = enter refl (first c.loop-x.invariant c.loop-x-test.true)
 
 pub value-requires : goal.value-requires
 value-requires g c =
-    let q = c.requires.planned in
     let l = g.met.D.Direction.laws c.args.d.now in
-    let row = row_inside q c.loop-n.n c.row_at-row.ensures c.loop-n-test.true c.row_count-count.ensures in
-    let here = inside (strip q row c.loop-x-test.true) c.loop-z-test.true in
+    let row = row_inside c.args.p c.loop-n.n c.row_at-row.ensures c.loop-n-test.true c.row_count-count.ensures in
+    let here = inside (strip c.args.p row c.loop-x-test.true) c.loop-z-test.true in
     (turn l (first c.loop-z.invariant c.loop-z-test.true) c.requires.ready, inside_as c.requires.plan here)
 
 pub returns-in_err-next : goal.returns-in_err-next

@@ -11,11 +11,11 @@ returns-then-i c =
 
 pub overflow_sub-result : goal.overflow_sub-result
 overflow_sub-result c =
-    let b = ((legal c.requires).image.interleaved c.if-i.false).0 in omega arith
+    let b = ((legal c.args.p).image.interleaved c.if-i.false).0 in omega arith
 
 pub nonzero_div-result : goal.nonzero_div-result
 nonzero_div-result c =
-    let b = ((legal c.requires).image.interleaved c.if-i.false).0 in omega arith
+    let b = ((legal c.args.p).image.interleaved c.if-i.false).0 in omega arith
 
 pub returns : goal.returns
 unfolding sub_frames

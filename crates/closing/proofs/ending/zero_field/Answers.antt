@@ -14,5 +14,5 @@ returns-then-count-eq0 c = rw c.if-count-eq0.true
 pub returns : goal.returns
 returns c =
     let a = c.args in
-    window_same a.count c.window.result (drop a.at (unpack a.file.now)) (omega arith)
+    window_same a.count c.window.result (drop a.bits.at (unpack a.bits.file.now)) (omega arith)
     (rw (length-drop) (omega arith)) (search rules) c.window.ensures

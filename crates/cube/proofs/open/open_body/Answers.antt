@@ -49,7 +49,7 @@ read_body-body-requires c =
     let n = c.sample_count-count in
     let t = c.store_tables in
     let z = c.clear in
-    begun_starts a.file.now a.scratch.now a.tables.now a.image.now a.s a.at L t.new.tables z.new.area n.result (t.ensures.stored L.begins.header _ L.begins.read) n.ensures z.ensures _ _ c.plan_of-p.ensures refl
+    begun_starts a.file.now a.scratch.now a.tables.now a.image.now a.s a.at L t.new.tables z.new.area n.result (t.ensures.stored L.begins.header _ L.begins.read) n.ensures z.ensures _ _ c.plan_of-p.ensures.settings refl
 
 pub answer_of-answer-requires : goal.answer_of-answer-requires
 answer_of-answer-requires c =
@@ -59,7 +59,7 @@ answer_of-answer-requires c =
     let t = c.store_tables in
     let z = c.clear in
     let b = c.read_body-body in
-    let o = begun_outcome a.file.now a.scratch.now a.tables.now a.image.now a.s a.at L t.new.tables z.new.area n.result (t.ensures.stored L.begins.header _ L.begins.read) n.ensures z.ensures _ c.plan_of-p.ensures _ b.result b.ensures in
+    let o = begun_outcome a.file.now a.scratch.now a.tables.now a.image.now a.s a.at L t.new.tables z.new.area n.result (t.ensures.stored L.begins.header _ L.begins.read) n.ensures z.ensures _ c.plan_of-p.ensures.settings _ b.result b.ensures in
     (begun_legal a.file.now a.scratch.now a.tables.now a.image.now a.s a.at L.begins, begun_limited a.file.now a.scratch.now a.tables.now a.image.now a.s a.at L.begins, o.reached)
 
 pub returns-then-is_err : goal.returns-then-is_err
@@ -71,7 +71,7 @@ returns-then-is_err c =
     let z = c.clear in
     let b = c.read_body-body in
     let r = c.answer_of-answer in
-    let o = begun_outcome a.file.now a.scratch.now a.tables.now a.image.now a.s a.at L t.new.tables z.new.area n.result (t.ensures.stored L.begins.header _ L.begins.read) n.ensures z.ensures _ c.plan_of-p.ensures _ b.result b.ensures in
+    let o = begun_outcome a.file.now a.scratch.now a.tables.now a.image.now a.s a.at L t.new.tables z.new.area n.result (t.ensures.stored L.begins.header _ L.begins.read) n.ensures z.ensures _ c.plan_of-p.ensures.settings _ b.result b.ensures in
     let l : length t.new.tables ≡ length a.tables.now = search rules in
     opens_refused a.file.now a.scratch.now a.tables.now a.image.now a.s a.at L _ _ _ _ b.result _ o r.ensures (sym (ap is_err r.ensures) ∙ sym c.is_err.ensures.value ∙ c.if-is_err.true) (c.clear-then-is_err.ensures ∙ ap (λ (j : ℕ). replicate j (pos 0)) l)
     (c.clear-then-is_err-2.ensures ∙ ap (λ (j : ℕ). replicate j (pos 0)) (image_long a.file.now a.scratch.now a.tables.now a.image.now a.s a.at L t.new.tables z.new.area n.result (t.ensures.stored L.begins.header _ L.begins.read) n.ensures z.ensures b.new.image b.auto.image))
@@ -85,5 +85,5 @@ returns-else-is_err c =
     let z = c.clear in
     let b = c.read_body-body in
     let r = c.answer_of-answer in
-    let o = begun_outcome a.file.now a.scratch.now a.tables.now a.image.now a.s a.at L t.new.tables z.new.area n.result (t.ensures.stored L.begins.header _ L.begins.read) n.ensures z.ensures _ c.plan_of-p.ensures _ b.result b.ensures in
+    let o = begun_outcome a.file.now a.scratch.now a.tables.now a.image.now a.s a.at L t.new.tables z.new.area n.result (t.ensures.stored L.begins.header _ L.begins.read) n.ensures z.ensures _ c.plan_of-p.ensures.settings _ b.result b.ensures in
     opens_done a.file.now a.scratch.now a.tables.now a.image.now a.s a.at L t.new.tables z.new.area n.result (t.ensures.stored L.begins.header _ L.begins.read) n.ensures z.ensures _ b.result _ o (b.auto.image ∙ sym (front_long a.file.now a.scratch.now a.tables.now a.image.now a.s a.at L t.new.tables z.new.area n.result (t.ensures.stored L.begins.header _ L.begins.read) n.ensures z.ensures)) r.ensures (sym (ap is_err r.ensures) ∙ sym c.is_err.ensures.value ∙ c.if-is_err.false)

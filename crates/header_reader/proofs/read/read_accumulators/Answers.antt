@@ -29,37 +29,37 @@ returns-then-not-coder c = sym (ap table_read (accumulators_none _ _ _ (not-true
 
 pub returns-then-ends_before : goal.returns-then-ends_before
 returns-then-ends_before c =
-    let table : let a = c.args in let l = drop a.at (unpack a.file.now) in read_accumulators a.image a.coder l ≡ read_table (4 * a.image.nz) (legal a.image) l =
+    let table : let a = c.args in let l = drop a.entries.at (unpack a.entries.file.now) in read_accumulators a.image a.coder l ≡ read_table (4 * a.image.nz) (legal a.image) l =
     accumulators_tabled _ _ _ (not-false _ c.if-not-coder.false) in
     let a = c.args in
-    sym (ap table_read (table ∙ table_absent (unpack a.file.now) a.at (4 * a.image.nz) (legal a.image) (omega arith) c.padded-size.result c.padded-size.ensures.0 c.ends_before.result c.ends_before.ensures c.if-ends_before.true))
+    sym (ap table_read (table ∙ table_absent (unpack a.entries.file.now) a.entries.at (4 * a.image.nz) (legal a.image) (omega arith) c.padded-size.result c.padded-size.ensures.0 c.ends_before.result c.ends_before.ensures c.if-ends_before.true))
 
 pub returns-then-not-entries_legal-fill_clear : goal.returns-then-not-entries_legal-fill_clear
 returns-then-not-entries_legal-fill_clear c =
-    let table : let a = c.args in let l = drop a.at (unpack a.file.now) in read_accumulators a.image a.coder l ≡ read_table (4 * a.image.nz) (legal a.image) l =
+    let table : let a = c.args in let l = drop a.entries.at (unpack a.entries.file.now) in read_accumulators a.image a.coder l ≡ read_table (4 * a.image.nz) (legal a.image) l =
     accumulators_tabled _ _ _ (not-false _ c.if-not-coder.false) in
-    let room : c.args.at + c.padded-size.result ≤ length (unpack c.args.file.now) =
+    let room : c.args.entries.at + c.padded-size.result ≤ length (unpack c.args.entries.file.now) =
     ltb-false _ _ (sym c.ends_before.ensures ∙ c.if-ends_before.false) in
-    let seen : let a = c.args in let l = drop a.at (unpack a.file.now) in let n = 4 * a.image.nz in
+    let seen : let a = c.args in let l = drop a.entries.at (unpack a.entries.file.now) in let n = 4 * a.image.nz in
     PartSeen (read_table n (legal a.image) l) (padded n) (c.entries_legal.result && c.fill_clear.result) [] (take n l) l =
     let a = c.args in
-    let F = unpack a.file.now in
+    let F = unpack a.entries.file.now in
     let e = c.ends_before in
-    table_seen F a.at (4 * a.image.nz) (legal a.image) (omega arith) c.padded-size.result c.padded-size.ensures.0 e.result e.ensures
-    c.entries_legal.result c.fill_clear.result c.if-ends_before.false (c.entries_legal.ensures ∙ entries_in_file F a.at a.image.nz (a.image.depth - 2) (rw length-drop (omega (arith, room)))) c.fill_clear.ensures in
+    table_seen F a.entries.at (4 * a.image.nz) (legal a.image) (omega arith) c.padded-size.result c.padded-size.ensures.0 e.result e.ensures
+    c.entries_legal.result c.fill_clear.result c.if-ends_before.false (c.entries_legal.ensures ∙ entries_in_file F a.entries.at a.image.nz (a.image.depth - 2) (rw length-drop (omega (arith, room)))) (rw c.behind.ensures at c.fill_clear.ensures) in
     sym (ap table_read (table ∙ illegal seen (ap not c.if-not-entries_legal-fill_clear.true)))
 
 pub returns : goal.returns
 returns c =
-    let table : let a = c.args in let l = drop a.at (unpack a.file.now) in read_accumulators a.image a.coder l ≡ read_table (4 * a.image.nz) (legal a.image) l =
+    let table : let a = c.args in let l = drop a.entries.at (unpack a.entries.file.now) in read_accumulators a.image a.coder l ≡ read_table (4 * a.image.nz) (legal a.image) l =
     accumulators_tabled _ _ _ (not-false _ c.if-not-coder.false) in
-    let room : c.args.at + c.padded-size.result ≤ length (unpack c.args.file.now) =
+    let room : c.args.entries.at + c.padded-size.result ≤ length (unpack c.args.entries.file.now) =
     ltb-false _ _ (sym c.ends_before.ensures ∙ c.if-ends_before.false) in
-    let seen : let a = c.args in let l = drop a.at (unpack a.file.now) in let n = 4 * a.image.nz in
+    let seen : let a = c.args in let l = drop a.entries.at (unpack a.entries.file.now) in let n = 4 * a.image.nz in
     PartSeen (read_table n (legal a.image) l) (padded n) (c.entries_legal.result && c.fill_clear.result) [] (take n l) l =
     let a = c.args in
-    let F = unpack a.file.now in
+    let F = unpack a.entries.file.now in
     let e = c.ends_before in
-    table_seen F a.at (4 * a.image.nz) (legal a.image) (omega arith) c.padded-size.result c.padded-size.ensures.0 e.result e.ensures
-    c.entries_legal.result c.fill_clear.result c.if-ends_before.false (c.entries_legal.ensures ∙ entries_in_file F a.at a.image.nz (a.image.depth - 2) (rw length-drop (omega (arith, room)))) c.fill_clear.ensures in
+    table_seen F a.entries.at (4 * a.image.nz) (legal a.image) (omega arith) c.padded-size.result c.padded-size.ensures.0 e.result e.ensures
+    c.entries_legal.result c.fill_clear.result c.if-ends_before.false (c.entries_legal.ensures ∙ entries_in_file F a.entries.at a.image.nz (a.image.depth - 2) (rw length-drop (omega (arith, room)))) (rw c.behind.ensures at c.fill_clear.ensures) in
     sym (ap table_read (table ∙ legal_part seen (ap not c.if-not-entries_legal-fill_clear.false)))

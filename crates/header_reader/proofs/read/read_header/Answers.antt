@@ -32,8 +32,8 @@ returns-in_err-read_weights c =
     let p = err_from_is_err_and r.result r.ensures.1 in
     rw (p.1, p.2) (refused_at_weights _ _ _ _ predictor (table_refused _ _ (sym c.in_err-read_weights.was ∙ c.read_weights.ensures)))
 
-pub weights_size-weighted-requires : goal.weights_size-weighted-requires
-weights_size-weighted-requires c =
+pub weights_size-requires : goal.weights_size-requires
+weights_size-requires c =
     let image = image_done _ _ (sym c.in_ok-image.was ∙ c.read_image.ensures) in
     let f = predictor_facts _ _ _ (predictor_done _ _ _ image (sym c.in_ok-predictor.was ∙ c.read_predictor.ensures)) in
     (f.legal, f.image.bands)
@@ -42,7 +42,7 @@ pub returns-in_err-coder : goal.returns-in_err-coder
 returns-in_err-coder c =
     let image = image_done _ _ (sym c.in_ok-image.was ∙ c.read_image.ensures) in
     let predictor = predictor_done _ _ _ image (sym c.in_ok-predictor.was ∙ c.read_predictor.ensures) in
-    let weights = weights_done _ _ _ _ predictor (sym c.in_ok-read_weights.was ∙ c.read_weights.ensures) c.weights_size-weighted.ensures.0 in
+    let weights = weights_done _ _ _ _ predictor (sym c.in_ok-read_weights.was ∙ c.read_weights.ensures) c.weights_size.ensures.0 in
     let r = c.from_residual-in_err-coder in
     let p = err_from_is_err_and r.result r.ensures.1 in
     rw (p.1, p.2) (refused_at_coder _ _ _ _ _ weights (coder_refused _ _ (sym c.in_err-coder.was ∙ c.read_coder.ensures)))
@@ -51,21 +51,21 @@ pub read_accumulators-requires : goal.read_accumulators-requires
 read_accumulators-requires c =
     let image = image_done _ _ (sym c.in_ok-image.was ∙ c.read_image.ensures) in
     let predictor = predictor_done _ _ _ image (sym c.in_ok-predictor.was ∙ c.read_predictor.ensures) in
-    let weights = weights_done _ _ _ _ predictor (sym c.in_ok-read_weights.was ∙ c.read_weights.ensures) c.weights_size-weighted.ensures.0 in
+    let weights = weights_done _ _ _ _ predictor (sym c.in_ok-read_weights.was ∙ c.read_weights.ensures) c.weights_size.ensures.0 in
     let S : Settings = record { image = c.in_ok-image.image; predictor = c.in_ok-predictor.predictor; coder = c.in_ok-coder.coder } in
     let f = coder_facts _ _ _ (coder_done _ S _ weights (sym c.in_ok-coder.was ∙ c.read_coder.ensures)) in
-    (f.before.image.depth, f.before.image.bands, omega (arith, f.small), f.fits)
+    rw c.behind-coded.ensures (f.before.image.depth, f.before.image.bands, omega (arith, f.small), f.fits)
 
 pub returns-in_err-read_accumulators : goal.returns-in_err-read_accumulators
 returns-in_err-read_accumulators c =
     let image = image_done _ _ (sym c.in_ok-image.was ∙ c.read_image.ensures) in
     let predictor = predictor_done _ _ _ image (sym c.in_ok-predictor.was ∙ c.read_predictor.ensures) in
-    let weights = weights_done _ _ _ _ predictor (sym c.in_ok-read_weights.was ∙ c.read_weights.ensures) c.weights_size-weighted.ensures.0 in
+    let weights = weights_done _ _ _ _ predictor (sym c.in_ok-read_weights.was ∙ c.read_weights.ensures) c.weights_size.ensures.0 in
     let S : Settings = record { image = c.in_ok-image.image; predictor = c.in_ok-predictor.predictor; coder = c.in_ok-coder.coder } in
     let coder = coder_done _ S _ weights (sym c.in_ok-coder.was ∙ c.read_coder.ensures) in
     let r = c.from_residual-in_err-read_accumulators in
     let p = err_from_is_err_and r.result r.ensures.1 in
-    rw (p.1, p.2) (refused_at_accumulators _ _ _ _ coder (table_refused _ _ (sym c.in_err-read_accumulators.was ∙ c.read_accumulators.ensures)))
+    rw (p.1, p.2) (refused_at_accumulators _ _ _ _ coder (table_refused _ _ (sym c.in_err-read_accumulators.was ∙ (rw c.behind-coded.ensures at c.read_accumulators.ensures))))
 
 pub accumulators_size-requires : goal.accumulators_size-requires
 accumulators_size-requires c =
@@ -76,7 +76,7 @@ pub returns : goal.returns
 returns c =
     let image = image_done _ _ (sym c.in_ok-image.was ∙ c.read_image.ensures) in
     let predictor = predictor_done _ _ _ image (sym c.in_ok-predictor.was ∙ c.read_predictor.ensures) in
-    let weights = weights_done _ _ _ _ predictor (sym c.in_ok-read_weights.was ∙ c.read_weights.ensures) c.weights_size-weighted.ensures.0 in
+    let weights = weights_done _ _ _ _ predictor (sym c.in_ok-read_weights.was ∙ c.read_weights.ensures) c.weights_size.ensures.0 in
     let S : Settings = record { image = c.in_ok-image.image; predictor = c.in_ok-predictor.predictor; coder = c.in_ok-coder.coder } in
     let coder = coder_done _ S _ weights (sym c.in_ok-coder.was ∙ c.read_coder.ensures) in
-    begins _ _ _ _ coder (sym c.in_ok-read_accumulators.was ∙ c.read_accumulators.ensures) c.accumulators_size.ensures.0
+    rw c.behind-coded.ensures (begins _ _ _ _ coder (sym c.in_ok-read_accumulators.was ∙ (rw c.behind-coded.ensures at c.read_accumulators.ensures)) c.accumulators_size.ensures.0)

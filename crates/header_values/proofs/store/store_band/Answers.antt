@@ -10,7 +10,7 @@ use Rattle.header_values.proofs.store.store_band.Goals as goal
 
 pub loop-i-preserved : goal.loop-i-preserved
 loop-i-preserved c =
-    let value : to_z w32 (of_z w32 c.slot_at.result) ≡ slot_in (unpack c.args.file.now) c.args.s c.args.at c.args.first c.args.z c.loop-i.i =
+    let value : to_z w32 (of_z w32 c.slot_at.result) ≡ slot_in (unpack c.args.entries.file.now) c.args.s c.args.entries.at c.args.first c.args.z c.loop-i.i =
     to_z-of_z (ok w32 c.slot_at.result c.slot_at.type_inv) ∙ c.slot_at.ensures in
     λ k h. grind (arith, common_steps, value, c.loop-i.invariant k)
 

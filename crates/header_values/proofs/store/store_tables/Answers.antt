@@ -6,8 +6,8 @@ use Rattle.header.specs.SizeLaws.{components_most}
 use Rattle.header_values.proofs.StoreLaws.{bands_begin, bands_more, bands_all, storing_done, storing_facts}
 use Rattle.header_values.proofs.store.store_tables.Goals as goal
 
-pub weights_size-at-requires : goal.weights_size-at-requires
-weights_size-at-requires c = let f = storing_facts _ _ _ c.requires in (f.legal, f.image.bands)
+pub weights_size-requires : goal.weights_size-requires
+weights_size-requires c = let f = storing_facts _ _ _ c.requires in (f.legal, f.image.bands)
 
 pub loop-z-init : goal.loop-z-init
 loop-z-init c = bands_begin _ _ _
@@ -15,7 +15,7 @@ loop-z-init c = bands_begin _ _ _
 pub store_band-requires : goal.store_band-requires
 store_band-requires c =
     let v = c.loop-z.invariant in
-    (storing_done _ _ _ _ c.requires c.weights_size-at.ensures.0, v.components, c.loop-z-test.true, omega (arith, v.long, c.requires.area))
+    (storing_done _ _ _ _ c.requires c.weights_size.ensures.0, v.components, c.loop-z-test.true, omega (arith, v.long, c.requires.area))
 
 pub overflow_add-first : goal.overflow_add-first
 overflow_add-first c =
@@ -27,4 +27,4 @@ pub loop-z-preserved : goal.loop-z-preserved
 loop-z-preserved c = bands_more _ _ _ _ _ _ _ _ c.loop-z.invariant c.loop-z-test.true c.component_count-first.ensures c.store_band.ensures
 
 pub returns : goal.returns
-returns c = bands_all _ _ _ _ _ _ _ (storing_done _ _ _ _ c.requires c.weights_size-at.ensures.0) c.loop-z.invariant (omega arith)
+returns c = bands_all _ _ _ _ _ _ _ (storing_done _ _ _ _ c.requires c.weights_size.ensures.0) c.loop-z.invariant (omega arith)

@@ -1,23 +1,20 @@
 -- `predictor_steps::mapping::theta` meets its contract: both distances fit, and the smaller is answered.
-use mathlib.Core.Path.{◌≡◌}
-use native.Mathlib.Omega.{arith}
-use lib.IntN.{nat_abs, ◌-ℤ◌}
-use mir.Syntax.{w64}
-use mir.Val.{SFits}
-use mir.Facts.{to_z-of_z}
-use Rattle.integers.proofs.Laws.{zs, sub, abs_parts}
+use Rattle.std.proofs.Common.{◌≡◌, nat_abs, ◌-ℤ◌, arith, rules, SFits, w32, w64, to_z-of_z}
+use Rattle.integers.proofs.Laws.{wide, sz_abs, sz_of, sz_sub, sz_fits}
 use Rattle.predictor.specs.Mapping.{theta}
 use Rattle.predictor_steps.proofs.mapping.theta.Goals as goal
 
 pub returns : goal.returns
 unfolding theta
 returns c =
-    let x_fits : SFits w64 (c.args.prediction -ℤ c.args.low) =
-    omega (zs, sub c.args.prediction c.args.low, abs_parts c.args.prediction, abs_parts c.args.low) in
-    let a-is : c.magnitude-below.result ≡ nat_abs (c.args.prediction -ℤ c.args.low) =
-    simp (to_z-of_z, c.ranges.prediction, c.ranges.low, x_fits) at c.magnitude-below.ensures in
-    let y-fits : SFits w64 (c.args.high -ℤ c.args.prediction) =
-    omega (zs, sub c.args.high c.args.prediction, abs_parts c.args.prediction, abs_parts c.args.high) in
-    let b-is : c.magnitude-above.result ≡ nat_abs (c.args.high -ℤ c.args.prediction) =
-    simp (to_z-of_z, c.ranges.prediction, c.ranges.high, y-fits) at c.magnitude-above.ensures in
-    omega (arith, c.min.ensures, a-is, b-is)
+    let p = c.args.prediction in
+    let r = c.args.range in
+    let f = c.ranges.prediction in
+    let l : SFits w32 r.low = search rules in
+    let h : SFits w32 r.high = search rules in
+    let zp = sz_abs p c.requires in
+    let below-fits : SFits w64 (p -ℤ r.low) = sz_fits (sz_sub zp (sz_of l)) tt in
+    let above-fits : SFits w64 (r.high -ℤ p) = sz_fits (sz_sub (sz_of h) zp) tt in
+    let below-is : c.magnitude-below.result ≡ nat_abs (p -ℤ r.low) = simp (to_z-of_z, f, l, wide l, below-fits) at c.magnitude-below.ensures in
+    let above-is : c.magnitude-above.result ≡ nat_abs (r.high -ℤ p) = simp (to_z-of_z, f, h, wide h, above-fits) at c.magnitude-above.ensures in
+    omega (arith, c.min.ensures, below-is, above-is)

@@ -1,223 +1,96 @@
 -- `predictor_steps::mapping::unmap_residual` meets its contract: the calls give the parts of the definition, and the sample lies in its range, so that it fits.
-use mathlib.Core.Path.{◌≡◌}
-use Prim.Native.Nat.{◌^◌, ◌≤◌}
-use native.Mathlib.Omega.{arith}
-use lib.Dec.{lit<}
-use lib.IntN.{nat_abs, ◌+ℤ◌, ◌-ℤ◌}
-use lib.Signed.{le_z}
-use mir.Syntax.{w32, w64}
-use mir.Val.{SFits}
-use mir.Facts.{to_z-of_z}
-use Rattle.integers.specs.Integer.{floor_div, is_even}
+use Rattle.std.proofs.Common.{◌≡◌, ℕ, ◌^◌, ◌≤◌, ℤ, pos, nat_abs, ◌+ℤ◌, ◌-ℤ◌, ◌≤ℤ◌, lit<, arith, rules, SFits, w32, w64, to_z-of_z}
+use Rattle.integers.specs.Integer.{floor_div}
 use Rattle.integers.proofs.Laws.{zs, ok, wide, sub, one0, abs_parts, floor}
-use Rattle.predictor.specs.Mapping.{theta, unmap_residual, unmapped_by}
+use Rattle.predictor.specs.Mapping.{theta, unmapped_by}
+use Rattle.predictor.specs.Asks.{Ranged}
 use Rattle.predictor_steps.proofs.Maps.{theta_le, unmapped_in}
 use Rattle.predictor_steps.proofs.mapping.unmap_residual.Goals as goal
 
-pub overflow_sub-below : goal.overflow_sub-below
-overflow_sub-below c =
-    let p-is : c.predicted-prediction.result ≡ floor_div c.args.scaled 2 =
-    let f = c.ranges.scaled in simp to_z-of_z at c.predicted-prediction.ensures in
-    let p-size : nat_abs c.predicted-prediction.result ≤ 2 ^ 30 =
-    let t = c.args.scaled in
-    rw p-is (omega (arith, floor t 2 (lit< tt), abs_parts t, abs_parts (floor_div t 2), c.requires.0.sizes.scaled_small)) in
-    let x_fits : SFits w64 (c.predicted-prediction.result -ℤ c.args.low) =
-    let p = c.predicted-prediction.result in
-    let lo = c.args.low in
-    omega (zs, sub p lo, abs_parts p, abs_parts lo, p-size, c.requires.0.sizes.low_small) in
-    let a = c in
-    let f = c.ranges.low in
-    simp (to_z-of_z, f, wide f, ok w64 c.predicted-prediction.result c.predicted-prediction.type_inv) x_fits
+-- the sizes of a prediction and its distances from the ends, and the sample behind it
+module _ {scaled low high : ℤ} (r : Ranged scaled low high) where
+  module _ {p : ℤ} (p-is : p ≡ floor_div scaled 2) where
+    p-size : nat_abs p ≤ 2 ^ 30
+    p-size =
+        let q = floor_div scaled 2 in
+        rw p-is (omega (arith, floor scaled 2 (lit< tt), abs_parts scaled, abs_parts q, r.sizes.scaled_small))
+
+    below-fits : SFits w64 (p -ℤ low)
+    below-fits = omega (zs, sub p low, abs_parts p, abs_parts low, p-size, r.sizes.low_small)
+
+    above-fits : SFits w64 (high -ℤ p)
+    above-fits = omega (zs, sub high p, abs_parts p, abs_parts high, p-size, r.sizes.high_small)
+
+    t-size : {t : ℕ} → t ≡ theta low high p → t ≤ 2 ^ 31
+    t-size e = omega (arith, e, theta_le low high p, p-size, r.sizes.low_small)
+
+  sample-fits : {x : ℤ} (delta : ℕ) → pos delta ≤ℤ (high -ℤ low) → x ≡ unmapped_by low high scaled delta → SFits w32 x
+  sample-fits delta h e =
+      let u = unmapped_by low high scaled delta in
+      let k = unmapped_in delta r h in
+      rw e (omega (zs, k.0, k.1, abs_parts low, abs_parts high, r.sizes.low_small, r.sizes.high_small, one0 u))
 
 pub unmap_by-residual-requires : goal.unmap_by-residual-requires
 unmap_by-residual-requires c =
-    let p-is : c.predicted-prediction.result ≡ floor_div c.args.scaled 2 =
-    let f = c.ranges.scaled in simp to_z-of_z at c.predicted-prediction.ensures in
-    let p-size : nat_abs c.predicted-prediction.result ≤ 2 ^ 30 =
-    let t = c.args.scaled in
-    rw p-is (omega (arith, floor t 2 (lit< tt), abs_parts t, abs_parts (floor_div t 2), c.requires.0.sizes.scaled_small)) in
-    let t-is : c.theta-distance.result ≡ theta c.args.low c.args.high c.predicted-prediction.result =
-    let s = c in
-    simp (
-      to_z-of_z,
-      c.ranges.low,
-      c.ranges.high,
-      wide c.ranges.low,
-      wide c.ranges.high,
-      ok w64 c.predicted-prediction.result
-          c.predicted-prediction.type_inv,
-    ) at
-    c.theta-distance.ensures in
-    let s = c in
-    let p = c.predicted-prediction.result in (
-      omega arith,
-      omega (
-        arith,
-        t-is,
-        theta_le c.args.low c.args.high p,
-        p-size,
-        c.requires.0.sizes.low_small,
-      ),
-    )
+    let fs = c.ranges.scaled in
+    let fp = ok w64 c.predicted-prediction.result c.predicted-prediction.type_inv in
+    let p-is : c.predicted-prediction.result ≡ floor_div c.args.scaled 2 = simp (to_z-of_z, fs) at c.predicted-prediction.ensures in
+    let t-is = simp (to_z-of_z, fp) at c.theta-distance.ensures in
+    let t = t-size c.requires.0 p-is t-is in
+    (omega arith, omega arith)
 
 pub overflow_add-result : goal.overflow_add-result
 unfolding unmapped_by
 overflow_add-result c =
-    let p-is : c.predicted-prediction.result ≡ floor_div c.args.scaled 2 =
-    let f = c.ranges.scaled in simp to_z-of_z at c.predicted-prediction.ensures in
-    let t-is : c.theta-distance.result ≡ theta c.args.low c.args.high c.predicted-prediction.result =
-    let s = c in
-    simp (
-      to_z-of_z,
-      c.ranges.low,
-      c.ranges.high,
-      wide c.ranges.low,
-      wide c.ranges.high,
-      ok w64 c.predicted-prediction.result
-          c.predicted-prediction.type_inv,
-    ) at
-    c.theta-distance.ensures in
-    let e-is : c.is_even-even.result ≡ is_even c.args.scaled =
-    let f = c.ranges.scaled in simp to_z-of_z at c.is_even-even.ensures in
-    let p-size : nat_abs c.predicted-prediction.result ≤ 2 ^ 30 =
-    let t = c.args.scaled in
-    rw p-is (omega (arith, floor t 2 (lit< tt), abs_parts t, abs_parts (floor_div t 2), c.requires.0.sizes.scaled_small)) in
-    let x_fits : SFits w64 (c.predicted-prediction.result -ℤ c.args.low) =
-    let p = c.predicted-prediction.result in
-    let lo = c.args.low in
-    omega (zs, sub p lo, abs_parts p, abs_parts lo, p-size, c.requires.0.sizes.low_small) in
-    let y-fits : SFits w64 (c.args.high -ℤ c.predicted-prediction.result) =
-    let p = c.predicted-prediction.result in
-    let hi = c.args.high in
-    omega (zs, sub hi p, abs_parts p, abs_parts hi, p-size, c.requires.0.sizes.high_small) in
-    let d-is : let a = c in let s = c in
-    c.unmap_by-residual.result ≡ unmap_residual c.is_even-even.result c.args.delta c.theta-distance.result
-    (le_z (c.predicted-prediction.result -ℤ c.args.low) (c.args.high -ℤ c.predicted-prediction.result)) =
-    let a = c in
-    let f = c.ranges.low in
-    let g = c.ranges.high in
-    simp (to_z-of_z, f, wide f, g, wide g, ok w64 c.predicted-prediction.result c.predicted-prediction.type_inv, x_fits, y-fits) at c.unmap_by-residual.ensures in
-    let sum_is : let a = c in let s = c in
-    c.predicted-prediction.result +ℤ c.unmap_by-residual.result ≡ unmapped_by c.args.low c.args.high c.args.scaled c.args.delta =
+    let r = c.requires.0 in
+    let range = c.args.range in
+    let l : SFits w32 range.low = search rules in
+    let h : SFits w32 range.high = search rules in
+    let fs = c.ranges.scaled in
+    let fp = ok w64 c.predicted-prediction.result c.predicted-prediction.type_inv in
+    let fr = ok w64 c.unmap_by-residual.result c.unmap_by-residual.type_inv in
+    let p-is : c.predicted-prediction.result ≡ floor_div c.args.scaled 2 = simp (to_z-of_z, fs) at c.predicted-prediction.ensures in
+    let t-is = simp (to_z-of_z, fp) at c.theta-distance.ensures in
+    let e-is = simp (to_z-of_z, fs) at c.is_even-even.ensures in
+    let d-is = simp (to_z-of_z, l, wide l, h, wide h, fp, below-fits r p-is, above-fits r p-is) at c.unmap_by-residual.ensures in
+    let sum_is : c.predicted-prediction.result +ℤ c.unmap_by-residual.result ≡ unmapped_by range.low range.high c.args.scaled c.args.delta =
     rw (d-is, e-is, t-is, p-is) in
-    let result_fits : SFits w32 (c.predicted-prediction.result +ℤ c.unmap_by-residual.result) =
-    let s = c in
-    let b = c.requires.0 in
-    let lo = c.args.low in
-    let hi = c.args.high in
-    let u = unmapped_by lo hi c.args.scaled c.args.delta in
-    let r = unmapped_in c.args.delta b c.requires.1 in
-    rw sum_is (omega (zs, r.0, r.1, abs_parts lo, abs_parts hi, b.sizes.low_small, b.sizes.high_small, one0 u)) in
-    let a = c in
-    simp (to_z-of_z, ok w64 c.predicted-prediction.result c.predicted-prediction.type_inv, ok w64 c.unmap_by-residual.result c.unmap_by-residual.type_inv) (wide result_fits)
+    simp (to_z-of_z, fp, fr) (wide (sample-fits r c.args.delta c.requires.1 sum_is))
 
 pub overflow_cast-result : goal.overflow_cast-result
 unfolding unmapped_by
 overflow_cast-result c =
-    let p-is : c.predicted-prediction.result ≡ floor_div c.args.scaled 2 =
-    let f = c.ranges.scaled in simp to_z-of_z at c.predicted-prediction.ensures in
-    let t-is : c.theta-distance.result ≡ theta c.args.low c.args.high c.predicted-prediction.result =
-    let s = c in
-    simp (
-      to_z-of_z,
-      c.ranges.low,
-      c.ranges.high,
-      wide c.ranges.low,
-      wide c.ranges.high,
-      ok w64 c.predicted-prediction.result
-          c.predicted-prediction.type_inv,
-    ) at
-    c.theta-distance.ensures in
-    let e-is : c.is_even-even.result ≡ is_even c.args.scaled =
-    let f = c.ranges.scaled in simp to_z-of_z at c.is_even-even.ensures in
-    let p-size : nat_abs c.predicted-prediction.result ≤ 2 ^ 30 =
-    let t = c.args.scaled in
-    rw p-is (omega (arith, floor t 2 (lit< tt), abs_parts t, abs_parts (floor_div t 2), c.requires.0.sizes.scaled_small)) in
-    let x_fits : SFits w64 (c.predicted-prediction.result -ℤ c.args.low) =
-    let p = c.predicted-prediction.result in
-    let lo = c.args.low in
-    omega (zs, sub p lo, abs_parts p, abs_parts lo, p-size, c.requires.0.sizes.low_small) in
-    let y-fits : SFits w64 (c.args.high -ℤ c.predicted-prediction.result) =
-    let p = c.predicted-prediction.result in
-    let hi = c.args.high in
-    omega (zs, sub hi p, abs_parts p, abs_parts hi, p-size, c.requires.0.sizes.high_small) in
-    let d-is : let a = c in let s = c in
-    c.unmap_by-residual.result ≡ unmap_residual c.is_even-even.result c.args.delta c.theta-distance.result
-    (le_z (c.predicted-prediction.result -ℤ c.args.low) (c.args.high -ℤ c.predicted-prediction.result)) =
-    let a = c in
-    let f = c.ranges.low in
-    let g = c.ranges.high in
-    simp (to_z-of_z, f, wide f, g, wide g, ok w64 c.predicted-prediction.result c.predicted-prediction.type_inv, x_fits, y-fits) at c.unmap_by-residual.ensures in
-    let sum_is : let a = c in let s = c in
-    c.predicted-prediction.result +ℤ c.unmap_by-residual.result ≡ unmapped_by c.args.low c.args.high c.args.scaled c.args.delta =
+    let r = c.requires.0 in
+    let range = c.args.range in
+    let l : SFits w32 range.low = search rules in
+    let h : SFits w32 range.high = search rules in
+    let fs = c.ranges.scaled in
+    let fp = ok w64 c.predicted-prediction.result c.predicted-prediction.type_inv in
+    let fr = ok w64 c.unmap_by-residual.result c.unmap_by-residual.type_inv in
+    let p-is : c.predicted-prediction.result ≡ floor_div c.args.scaled 2 = simp (to_z-of_z, fs) at c.predicted-prediction.ensures in
+    let t-is = simp (to_z-of_z, fp) at c.theta-distance.ensures in
+    let e-is = simp (to_z-of_z, fs) at c.is_even-even.ensures in
+    let d-is = simp (to_z-of_z, l, wide l, h, wide h, fp, below-fits r p-is, above-fits r p-is) at c.unmap_by-residual.ensures in
+    let sum_is : c.predicted-prediction.result +ℤ c.unmap_by-residual.result ≡ unmapped_by range.low range.high c.args.scaled c.args.delta =
     rw (d-is, e-is, t-is, p-is) in
-    let result_fits : SFits w32 (c.predicted-prediction.result +ℤ c.unmap_by-residual.result) =
-    let s = c in
-    let b = c.requires.0 in
-    let lo = c.args.low in
-    let hi = c.args.high in
-    let u = unmapped_by lo hi c.args.scaled c.args.delta in
-    let r = unmapped_in c.args.delta b c.requires.1 in
-    rw sum_is (omega (zs, r.0, r.1, abs_parts lo, abs_parts hi, b.sizes.low_small, b.sizes.high_small, one0 u)) in
-    let a = c in
-    simp (to_z-of_z, ok w64 c.predicted-prediction.result c.predicted-prediction.type_inv, ok w64 c.unmap_by-residual.result c.unmap_by-residual.type_inv, wide result_fits)
-    result_fits
+    let f = sample-fits r c.args.delta c.requires.1 sum_is in
+    simp (to_z-of_z, fp, fr, wide f) f
 
 pub returns : goal.returns
 unfolding unmapped_by
 returns c =
-    let p-is : c.predicted-prediction.result ≡ floor_div c.args.scaled 2 =
-    let f = c.ranges.scaled in simp to_z-of_z at c.predicted-prediction.ensures in
-    let t-is : c.theta-distance.result ≡ theta c.args.low c.args.high c.predicted-prediction.result =
-    let s = c in
-    simp (
-      to_z-of_z,
-      c.ranges.low,
-      c.ranges.high,
-      wide c.ranges.low,
-      wide c.ranges.high,
-      ok w64 c.predicted-prediction.result
-          c.predicted-prediction.type_inv,
-    ) at
-    c.theta-distance.ensures in
-    let e-is : c.is_even-even.result ≡ is_even c.args.scaled =
-    let f = c.ranges.scaled in simp to_z-of_z at c.is_even-even.ensures in
-    let p-size : nat_abs c.predicted-prediction.result ≤ 2 ^ 30 =
-    let t = c.args.scaled in
-    rw p-is (omega (arith, floor t 2 (lit< tt), abs_parts t, abs_parts (floor_div t 2), c.requires.0.sizes.scaled_small)) in
-    let x_fits : SFits w64 (c.predicted-prediction.result -ℤ c.args.low) =
-    let p = c.predicted-prediction.result in
-    let lo = c.args.low in
-    omega (zs, sub p lo, abs_parts p, abs_parts lo, p-size, c.requires.0.sizes.low_small) in
-    let y-fits : SFits w64 (c.args.high -ℤ c.predicted-prediction.result) =
-    let p = c.predicted-prediction.result in
-    let hi = c.args.high in
-    omega (zs, sub hi p, abs_parts p, abs_parts hi, p-size, c.requires.0.sizes.high_small) in
-    let d-is : let a = c in let s = c in
-    c.unmap_by-residual.result ≡ unmap_residual c.is_even-even.result c.args.delta c.theta-distance.result
-    (le_z (c.predicted-prediction.result -ℤ c.args.low) (c.args.high -ℤ c.predicted-prediction.result)) =
-    let a = c in
-    let f = c.ranges.low in
-    let g = c.ranges.high in
-    simp (to_z-of_z, f, wide f, g, wide g, ok w64 c.predicted-prediction.result c.predicted-prediction.type_inv, x_fits, y-fits) at c.unmap_by-residual.ensures in
-    let sum_is : let a = c in let s = c in
-    c.predicted-prediction.result +ℤ c.unmap_by-residual.result ≡ unmapped_by c.args.low c.args.high c.args.scaled c.args.delta =
+    let r = c.requires.0 in
+    let range = c.args.range in
+    let l : SFits w32 range.low = search rules in
+    let h : SFits w32 range.high = search rules in
+    let fs = c.ranges.scaled in
+    let fp = ok w64 c.predicted-prediction.result c.predicted-prediction.type_inv in
+    let fr = ok w64 c.unmap_by-residual.result c.unmap_by-residual.type_inv in
+    let p-is : c.predicted-prediction.result ≡ floor_div c.args.scaled 2 = simp (to_z-of_z, fs) at c.predicted-prediction.ensures in
+    let t-is = simp (to_z-of_z, fp) at c.theta-distance.ensures in
+    let e-is = simp (to_z-of_z, fs) at c.is_even-even.ensures in
+    let d-is = simp (to_z-of_z, l, wide l, h, wide h, fp, below-fits r p-is, above-fits r p-is) at c.unmap_by-residual.ensures in
+    let sum_is : c.predicted-prediction.result +ℤ c.unmap_by-residual.result ≡ unmapped_by range.low range.high c.args.scaled c.args.delta =
     rw (d-is, e-is, t-is, p-is) in
-    let result_fits : SFits w32 (c.predicted-prediction.result +ℤ c.unmap_by-residual.result) =
-    let s = c in
-    let b = c.requires.0 in
-    let lo = c.args.low in
-    let hi = c.args.high in
-    let u = unmapped_by lo hi c.args.scaled c.args.delta in
-    let r = unmapped_in c.args.delta b c.requires.1 in
-    rw sum_is (omega (zs, r.0, r.1, abs_parts lo, abs_parts hi, b.sizes.low_small, b.sizes.high_small, one0 u)) in
-    let a = c in
-    simp (
-      to_z-of_z,
-      ok w64 c.predicted-prediction.result c.predicted-prediction.type_inv,
-      ok w64 c.unmap_by-residual.result c.unmap_by-residual.type_inv,
-      wide
-          result_fits,
-      result_fits,
-    )
-    sum_is
+    let f = sample-fits r c.args.delta c.requires.1 sum_is in
+    simp (to_z-of_z, fp, fr, wide f, f) sum_is

@@ -3,12 +3,12 @@ use native.Mathlib.Nat.{lt_of_lt_of_le}
 use native.Mathlib.Omega.{arith}
 use lib.Pow.{pow_mono}
 use Rattle.bitstream.proofs.Windows.{found_short, found_value, top_lt}
-use Rattle.bitstream.proofs.read.get.Goals as goal
+use Rattle.bitstream.proofs.read.Bits.get.Goals as goal
 
-pub returns-then-s-next : goal.returns-then-s-next
-returns-then-s-next c =
+pub returns-then-self-next : goal.returns-then-self-next
+returns-then-self-next c =
     let a = c.args in
-    found_short a.s.now a.at a.width (omega arith)
+    found_short a.self.file.now a.self.at a.width (omega arith)
 
 pub overflow_cast-result-2 : goal.overflow_cast-result-2
 overflow_cast-result-2 c =
@@ -18,4 +18,4 @@ overflow_cast-result-2 c =
 pub returns : goal.returns
 returns c =
     let a = c.args in
-    found_value a.s.now a.at a.width c.window.result (omega arith) (omega arith) (omega arith) c.window.ensures
+    found_value a.self.file.now a.self.at a.width c.window.result (omega arith) (omega arith) (omega arith) c.window.ensures
