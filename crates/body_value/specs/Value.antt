@@ -21,7 +21,6 @@ use Rattle.body_value.specs.declared.Place.{Place}
 use Rattle.body_value.specs.declared.Cursor.{Cursor}
 use Rattle.body_value.specs.Plan.{Inside}
 use Rattle.body_value.specs.Predictor.{Weights}
-use Rattle.refusals.specs.declared.Refusal.{Refusal}
 use Rattle.body_value.specs.Coder.{statistics_in, Counts}
 
 -- ---- a band's slots: the weights in the first 18, the statistics behind them

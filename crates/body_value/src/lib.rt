@@ -16,7 +16,7 @@ pub struct Place {
     pub x: usize,
 }
 
-// A position in a file, in bits, and the rank of the value that stands there.
+// A position in a file, in bits, and the rank of the value that stands there. The file is no part of it: the walk hands on what changes.
 #[derive(Clone, Copy)]
 pub struct Cursor {
     pub at: usize,

@@ -5,11 +5,12 @@ use lib.Arith.{digits_lt, digits_mod}
 use lib.Seq.{take-nil}
 use borrow.Rule.Slice.PartMut.{put_mid, take_put, drop_put, same_len_mid}
 use Rattle.settings.specs.declared.Settings.{Settings}
+use Rattle.settings.specs.Lists.{join}
 use Rattle.predictor.specs.Differences.{Image}
 use Rattle.predictor.specs.Band.{mapped_at}
 use Rattle.predictor.proofs.Causality.{weights_at_same, mapped_at_same}
 use Rattle.coder.specs.StatisticsLaws.{statistics_same}
-use Rattle.body.specs.Order.{Place}
+use Rattle.body.specs.Order.{Place, row_of, column_of}
 use Rattle.body_value.specs.declared.plan.Plan.{Plan}
 use Rattle.body_value.specs.declared.Place as value
 use Rattle.body_value.specs.Plan.{Inside}
@@ -160,3 +161,8 @@ inside h k = record { band_in = let w = h.within in omega arith; place_in = h.pl
 
 pub inside_as : {P Q : Plan} {p : value.Place} → Q ≡ P → Inside P p → Inside Q p
 inside_as e h = rw e h
+
+-- a row's columns, by the width that the plan holds
+pub row_places_lem : (P : Plan) (y z n : ℕ) → row_of P.settings.image.nx y z n ≡ join (λ x. column_of (y * P.nx + x) z n) 0 P.nx
+unfolding row_of
+row_places_lem P y z n = ap (λ (m : ℕ). join (λ x. column_of (y * m + x) z n) 0 m) (sym P.planned.nx_is)

@@ -1,7 +1,7 @@
 // Lent areas are cleared whole, so that after a refusal no half file and no half image is left.
 ghost use Rattle.std.specs.Prelude.{◌≡◌, length, replicate};
 
-// Every element of an area, bytes or slots, becomes zero.
+// Every element of an area, bytes or slots, becomes zero. std's `fill` would ask that a clone cannot fail, which no bound says.
 pub fn clear<T: Copy>(area: &mut [T], zero: T)
     ensures { area.new ≡ replicate (length area.old) zero }
 {

@@ -23,7 +23,8 @@ use refusals::Refusal;
 use settings::legal::{coder_legal, image_legal, limited, predictor_legal};
 use settings::{Coder, Image, Predictor, Settings};
 
-// The file ends before a position in bits, at which nothing is read. It is compared in bytes: the length in bits may not fit a word.
+// The file ends before a position in bits: one that is only compared, so no `Bits`. It is compared in bytes, for the length in bits may
+// not fit a word.
 fn ends_before(file: &[u8], end: usize) -> bool
     requires { end ≤ 4 * table_ceiling }
     ensures { result ≡ ltb (length (unpack file.now)) end }

@@ -13,7 +13,8 @@ use integers::power_of;
 use settings::Settings;
 use settings::tables::{PARAMETER_SLOT, TABLE_STRIDE, component_count};
 
-// The number that q bits are in two's complement. No type has q bits, so no conversion of std's says it, and shifts say it less plainly.
+// The number that q bits are in two's complement. No type has q bits, so no conversion of std's
+// says it, and `integers::wrap` is of the predictor's register, with 64 bits.
 fn signed_of(q: u32, v: u32) -> i32
     requires { (1 ≤ q) × (q ≤ 22) × (v < 2 ^ q) }
     ensures { result ≡ signed_of q v }

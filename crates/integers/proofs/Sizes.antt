@@ -2,7 +2,7 @@
 use Rattle.integers.specs.Sizes.{Sz}
 use Rattle.std.specs.Prelude.{ℕ, ◌+◌, ◌*◌, ◌^◌, ◌<◌, ◌≤◌, T, ltb, ℤ, pos, ◌+ℤ◌, ◌-ℤ◌, ◌*ℤ◌, nat_abs}
 use Rattle.std.proofs.Common.{arith, ltb→lt}
-use Rattle.std.specs.Int.{Width}
+use Rattle.std.specs.Int.{Width, w64}
 use mir.Val.{SFits, hbits}
 use Rattle.integers.specs.Integer.{floor_div}
 use Rattle.integers.specs.Parts.{zs, add, sub, abs_parts, fits_parts}
@@ -34,3 +34,7 @@ sz_floor {z} d p h = record { le = omega (arith, (floor z d p).size, h.le) }
 -- at numerals: `sz_fits (sz_add hx hy) tt`
 pub sz_fits : {w : Width} {b : ℕ} {z : ℤ} → Sz b z → T (ltb b (2 ^ hbits w)) → SFits w z
 sz_fits {w} {b} {z} h t = omega (zs, h.le, ltb→lt b (2 ^ hbits w) t)
+
+-- −x as 0 − x fits, unless x is the least number
+pub negated_fits : (x : ℤ) → nat_abs x < 2 ^ 63 → SFits w64 (pos 0 -ℤ x)
+negated_fits x h = omega (zs, h, sub (pos 0) x, abs_parts x)

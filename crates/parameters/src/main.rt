@@ -51,7 +51,7 @@ fn tell(output: &mut impl Write, count: u32) -> io::Result<()> {
         answer: u64::from(count),
         hash,
     };
-    line(output, "parameter", told)
+    line(output, b"parameter", told)
 }
 
 fn main(rt: HostRuntime) -> io::Result<()> {

@@ -45,7 +45,7 @@ fn within(samples: &[i32], at: usize, back: usize, beyond: bool) -> i32
 }
 
 // The neighbours of the sample at `at` of its row, with the sample above it at `north`. Both rows may lie in the same slice. The rows
-// and their indices are no struct: it would be built at each call and taken apart here at once.
+// and their indices are no struct: each of the two callers would build it for one call.
 pub fn fetch(above: &[i32], north: usize, here: &[i32], at: usize, position: Position) -> Neighbours
     requires { Fetching above.now north here.now at (position_of position) }
     ensures { neighbours_of result ≡ fetched above.now north here.now at (position_of position) }

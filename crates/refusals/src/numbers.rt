@@ -9,10 +9,7 @@ fn told(number: u64, value: u64) -> Numbered
     ensures number_value { result.number ≡ number }
     ensures value_value { result.value ≡ value }
 {
-    Numbered {
-        number: number,
-        value: value,
-    }
+    Numbered { number, value }
 }
 
 // One match for both, so that each reason is listed once.

@@ -13,7 +13,8 @@ use std::mem;
 // No proof can know that an input ends, so turns are counted, up to more than any input has.
 const TURNS: u64 = 0xFFFF_FFFF;
 
-// The slots of an area, and how many of them calls are lent.
+// The slots of an area, and how many of them calls are lent: a number, and no shorter slice, for it may be more than there are, and the
+// next record may lend more again.
 #[derive(Drop)]
 struct Slots<'a> {
     held: &'a mut [i32],
@@ -136,11 +137,21 @@ fn walk(input: &mut impl Read, output: &mut impl Write, areas: &mut Areas<'_>) -
             Ok(Record::Lend { area, lent, given }) => areas.lend(input, area, lent, given)?,
             Ok(Record::File { given }) => read_bytes(input, areas.bytes, given)?,
             Ok(Record::Make(call, change)) => match areas.call(call, change) {
-                Some(told) => line(output, call.name(), told)?,
+                Some(told) => line(output, name(call), told)?,
                 None => over(output)?,
             },
             Err(UnknownKind) => over(output)?,
         }
     }
     Ok(())
+}
+
+// How the line of a call begins.
+fn name(call: Call) -> &'static [u8] {
+    match call {
+        Call::Pack => b"pack",
+        Call::Length => b"length",
+        Call::Open => b"open",
+        Call::Look => b"look",
+    }
 }

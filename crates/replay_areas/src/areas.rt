@@ -44,7 +44,7 @@ impl Element for i32 {
     }
 }
 
-// Makes an area ready for a call that may write it.
+// Makes an area ready for a call that may write it. std's `fill` would ask that a clone cannot fail, which no bound says.
 pub fn prepare<T: Element>(area: &mut [T])
     ensures { All (λ x. x ≡ T.BEFORE) area.new }
 {

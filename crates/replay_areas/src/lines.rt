@@ -21,8 +21,9 @@ impl Display for Told {
     }
 }
 
-pub fn line(output: &mut impl Write, name: &str, told: Told) -> io::Result<()> {
-    writeln!(output, "{name} {told}")
+pub fn line(output: &mut impl Write, name: &[u8], told: Told) -> io::Result<()> {
+    output.write_all(name)?;
+    writeln!(output, " {told}")
 }
 
 // The line of a call that does not fit this program's arrays, which is then not made. The independent program writes no such line.

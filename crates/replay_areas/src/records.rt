@@ -33,18 +33,6 @@ pub enum Call {
     Look,
 }
 
-impl Call {
-    // How its line begins.
-    pub fn name(self) -> &'static str {
-        match self {
-            Call::Pack => "pack",
-            Call::Length => "length",
-            Call::Open => "open",
-            Call::Look => "look",
-        }
-    }
-}
-
 // What a call is lent of the file: its first `length` bytes, where `byte` stands at `place`.
 #[derive(Clone, Copy)]
 pub struct Change {
