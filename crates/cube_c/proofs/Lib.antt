@@ -1,2 +1,3 @@
 -- Pure lemmas behind the functions' proofs.
 pub mod Boundaries
+pub mod Told

@@ -49,10 +49,7 @@ pub fn opened_word(r: Result<Settings, Refusal>) -> u64
     requires { opened_value r < value_limit }
     ensures { result ≡ opened_word r }
 {
-    match r {
-        Ok(s) => word(0, sample_count(s.image)),
-        Err(w) => refusal_word(w),
-    }
+    packed_word(r.map(|s| sample_count(s.image)))
 }
 
 // Success has no value beside the settings.
@@ -60,10 +57,7 @@ pub fn looked_word(r: Result<Settings, Refusal>) -> u64
     requires { looked_value r < value_limit }
     ensures { result ≡ looked_word r }
 {
-    match r {
-        Ok(_) => 0,
-        Err(w) => refusal_word(w),
-    }
+    packed_word(r.map(|_| 0))
 }
 
 // The settings of an answer; after a refusal the slots are left as they are.

@@ -1,18 +1,16 @@
--- Each arm is the definition's clause.
-use mathlib.Core.Path.{◌∙◌, sym, ap}
-use native.Mathlib.Omega.{arith}
-use Rattle.cube.specs.Answers.{opened_number, looked_value}
-use Rattle.cube_c.specs.Answer.{word_of, looked_word}
+-- Success tells 0, and a refusal is told as it is.
+use Rattle.std.proofs.Common.{◌≡◌, sym, ap₂, ◌∙◌, arith, rules, of_calls}
+use Rattle.cube_c.specs.Answer.{word_of, packed_word, looked_word}
+use Rattle.cube_c.proofs.Told.{looked_told}
 use Rattle.cube_c.proofs.answer.looked_word.Goals as goal
 
-pub refusal_word-requires : goal.refusal_word-requires
-unfolding looked_value
-refusal_word-requires c = let e = ap looked_value c.in-Err.is in omega arith
+pub packed_word-requires : goal.packed_word-requires
+packed_word-requires c =
+    let t = looked_told c.args.r c.map.result _ c.map.ensures.cases (λ s n q. search (rules, of_calls)) in
+    omega (arith, t.value)
 
-pub returns-in-Ok : goal.returns-in-Ok
-unfolding looked_word opened_number looked_value word_of
-returns-in-Ok c = sym (ap looked_word c.in-Ok.is)
-
-pub returns-in-Err : goal.returns-in-Err
-unfolding looked_word opened_number looked_value
-returns-in-Err c = c.refusal_word.ensures ∙ sym (ap looked_word c.in-Err.is)
+pub returns : goal.returns
+unfolding packed_word looked_word
+returns c =
+    let t = looked_told c.args.r c.map.result _ c.map.ensures.cases (λ s n q. search (rules, of_calls)) in
+    c.packed_word.ensures ∙ ap₂ word_of t.number t.value

@@ -1,29 +1,21 @@
--- Each arm is the definition's clause.
-use mathlib.Core.Path.{◌∙◌, sym, ap}
-use native.Mathlib.Omega.{arith}
-use Rattle.cube.specs.Answers.{opened_number, opened_value}
-use Rattle.cube_c.specs.Answer.{word_of, opened_word}
+-- Success tells the number of samples, and a refusal is told as it is.
+use Rattle.std.proofs.Common.{◌≡◌, sym, ap, ap₂, ◌∙◌, arith, rules, of_calls}
+use Rattle.cube.specs.Answers.{opened_value}
+use Rattle.cube_c.specs.Answer.{word_of, packed_word, opened_word}
+use Rattle.cube_c.proofs.Told.{opened_told}
 use Rattle.cube_c.proofs.answer.opened_word.Goals as goal
 
-pub sample_count-requires : goal.sample_count-requires
+pub map-requires : goal.map-requires
 unfolding opened_value
-sample_count-requires c = let e = ap opened_value c.in-Ok.is in omega arith
+map-requires c = λ x e l p. let k = ap opened_value e in λ u v. omega arith
 
-pub word-requires : goal.word-requires
-unfolding opened_value
-word-requires c = let e = ap opened_value c.in-Ok.is in record {
-  number_bound = omega arith;
-  value_lt_value_limit = omega (arith, c.sample_count.ensures);
-}
+pub packed_word-requires : goal.packed_word-requires
+packed_word-requires c =
+    let t = opened_told c.args.r c.map.result _ c.map.ensures.cases (λ s n q. search (rules, of_calls)) in
+    omega (arith, t.value)
 
-pub refusal_word-requires : goal.refusal_word-requires
-unfolding opened_value
-refusal_word-requires c = let e = ap opened_value c.in-Err.is in omega arith
-
-pub returns-in-Ok : goal.returns-in-Ok
-unfolding opened_word opened_number opened_value
-returns-in-Ok c = c.word.ensures ∙ ap (word_of 0) c.sample_count.ensures ∙ sym (ap opened_word c.in-Ok.is)
-
-pub returns-in-Err : goal.returns-in-Err
-unfolding opened_word opened_number opened_value
-returns-in-Err c = c.refusal_word.ensures ∙ sym (ap opened_word c.in-Err.is)
+pub returns : goal.returns
+unfolding packed_word opened_word
+returns c =
+    let t = opened_told c.args.r c.map.result _ c.map.ensures.cases (λ s n q. search (rules, of_calls)) in
+    c.packed_word.ensures ∙ ap₂ word_of t.number t.value
