@@ -6,6 +6,7 @@ use refusals::Refusal;
 use settings::Settings;
 
 // The settings of a file, or why its header is refused.
+#[tactic(auto, using(crate::specs::LookLaws::look_settings, crate::specs::LookLaws::look_refused))]
 pub fn look(file: &[u8]) -> Result<Settings, Refusal>
     ensures { Looks file.now result }
 {

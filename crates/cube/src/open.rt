@@ -21,6 +21,7 @@ use settings::legal::sample_count;
 use settings::tables::TABLE_STRIDE;
 
 // The answer for what the body came to; where it was read, the end of the file decides.
+#[tactic(auto, unfolding(crate::specs::Opening::answer_of))]
 fn answer_of(file: &[u8], s: Settings, body: Result<Cursor, Refusal>) -> Result<Settings, Refusal>
     requires { (settings_legal s ≡ true) × (limited s.image ≡ true) × Reached (unpack file.now) body }
     ensures { result ≡ answer_of s (unpack file.now) body }

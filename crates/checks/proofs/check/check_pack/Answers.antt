@@ -6,6 +6,8 @@ use native.Mathlib.Omega.{arith}
 use lib.Dec.{eqb}
 use lib.ListN.{length}
 use borrow.Author.Tests.{lt-ltb, le-ltb}
+use Rattle.std.specs.Prelude.{Err}
+use Rattle.refusals.specs.declared.Refusal.TheVariants.{SampleOutOfRange}
 use Rattle.refusals.specs.Tests.{first_hit}
 use Rattle.settings.specs.Legal.{settings_legal, limited, sample_count}
 use Rattle.settings.specs.LegalLaws.{legal_settings, count_fits}
@@ -105,7 +107,7 @@ returns-in-Some c =
     sym c.areas_short.ensures ∙ c.if-areas_short.false in
     let values : tables_legal c.args.s c.args.tables.now ≡ true =
     sym c.tables_legal.ensures ∙ c.if-not-tables_legal.false in
-    rw (legal, small, counted, roomy-areas, values, c.in-Some.ensures.0, lt-ltb _ _ c.in-Some.ensures.1)
+    rw (legal, small, counted, roomy-areas, values, c.in-Some.ensures.0, lt-ltb _ _ c.in-Some.ensures.1) (ap (λ (n : ℕ). Err (SampleOutOfRange n)) (omega arith))
 
 pub returns : goal.returns
 unfolding check_pack first_hit

@@ -1,19 +1,12 @@
 -- By what the body came to and, where it was read, by the end of the file.
 use Rattle.std.specs.Prelude.{Err}
-use Rattle.std.proofs.Common.{ℕ, ap, sym, subst, ◌∙◌, arith}
-use Rattle.std.proofs.lemmas.Result.{err_from_is_err_and}
+use Rattle.std.proofs.Common.{ℕ, ap, subst, ◌∙◌, arith}
 use Rattle.bitstream.specs.Stream.{unpack}
 use Rattle.refusals.specs.declared.Refusal.TheVariants.{BodyEnds, AfterEnd}
 use Rattle.settings.specs.LegalLaws.{legal_settings, count_fits}
-use Rattle.cube.specs.Opening.{end_answer, answer_of, Reached}
+use Rattle.cube.specs.Opening.{end_answer, Reached}
 use Rattle.cube.proofs.Openings.{answered}
 use Rattle.cube.proofs.open.answer_of.Goals as goal
-
-pub returns-in_err-end : goal.returns-in_err-end
-unfolding answer_of
-returns-in_err-end c =
-    let p = err_from_is_err_and c.from_residual.result c.from_residual.ensures.1 in
-    rw (p.1, p.2) (sym (ap (answer_of c.args.s (unpack c.args.file.now)) c.in_err-end.was))
 
 pub sample_count-count-requires : goal.sample_count-count-requires
 sample_count-count-requires c = count_fits c.args.s.image (legal_settings c.args.s c.requires.0).image
