@@ -13,7 +13,7 @@
 //      0           ends the run, as the end of the input does
 ghost use Rattle.replay_areas.specs.Records.{Reads};
 
-use std::io::{self, ErrorKind, Read};
+use std::io::{self, Read};
 
 // An area of slots.
 #[derive(Clone, Copy)]
@@ -127,10 +127,82 @@ pub fn read_bytes(input: &mut impl Read, area: &mut [u8], count: usize) -> io::R
     }
 }
 
-// The next bytes, as many as there is room for. Where the input ends before, the rest of the room is left as it is.
+// The next bytes, as many as there is room for. Where the input ends before, the rest of the room is left as it is. They are asked for
+// one by one. std's `read_exact` would tell the input's end as an error of a kind that a reader's own error may have, and would lend
+// the reader the room, which it may fill further than it tells; and any read of several bytes lets a reader's answer rest on how many.
 fn read_full(input: &mut impl Read, room: &mut [u8]) -> io::Result<()> {
-    match input.read_exact(room) {
-        Err(error) if error.kind() == ErrorKind::UnexpectedEof => Ok(()),
-        result => result,
+    for (place, byte) in room.iter_mut().zip(input.by_ref().bytes()) {
+        *place = byte?;
+    }
+    Ok(())
+}
+
+#[cfg(test)]
+mod tests {
+    use super::*;
+    use std::io::{Error, ErrorKind};
+
+    // A reader that gives some bytes, one at a time, and then ends or fails, with an error of the kind by which std tells a short
+    // input. It writes behind what it gives, as a reader may.
+    #[derive(Drop)]
+    struct Giving {
+        left: usize,
+        fails: bool,
+    }
+
+    impl Read for Giving {
+        fn read(&mut self, buf: &mut [u8]) -> io::Result<usize> {
+            for byte in buf.iter_mut() {
+                *byte = 0xEE;
+            }
+            if buf.is_empty() {
+                return Ok(0);
+            }
+            if self.left == 0 {
+                return if self.fails {
+                    Err(Error::from(ErrorKind::UnexpectedEof))
+                } else {
+                    Ok(0)
+                };
+            }
+            buf[0] = 11;
+            self.left -= 1;
+            Ok(1)
+        }
+    }
+
+    #[test]
+    fn an_error_of_the_reader_is_no_end_of_the_input(rt: HostRuntime) {
+        for left in [0, 4, 15] {
+            let mut input = Giving { left, fails: true };
+            let read = read_record(&mut input);
+            assert!(rt; read.is_err(), "behind {left} bytes");
+        }
+    }
+
+    #[test]
+    fn a_cut_record_has_the_bytes_that_are_there(rt: HostRuntime) -> io::Result<()> {
+        for (left, words) in [(0, [0; 4]), (5, [0x0B0B_0B0B, 0x0B00_0000, 0, 0])] {
+            let mut input = Giving { left, fails: false };
+            assert_eq!(rt; read_record(&mut input)?, words, "of {left} bytes");
+        }
+        let mut whole: &[u8] = &[0, 0, 0, 13, 0, 0, 1, 2, 0, 0, 0, 3, 0, 0, 0, 4, 5];
+        assert_eq!(rt; read_record(&mut whole)?, [13, 258, 3, 4]);
+        Ok(())
+    }
+
+    #[test]
+    fn an_area_behind_the_end_stays(rt: HostRuntime) -> io::Result<()> {
+        let mut area = [7; 100];
+        let mut input = Giving {
+            left: 70,
+            fails: false,
+        };
+        read_bytes(&mut input, &mut area, 90)?;
+        let mut given = area.iter().take(70);
+        let mut kept = area.iter().skip(70);
+        assert!(rt; given.all(|byte| *byte == 11));
+        assert!(rt; kept.all(|byte| *byte == 7));
+        Ok(())
     }
 }
