@@ -1,10 +1,12 @@
 -- Where the bands stand: behind a place its band stands one further on; behind places, as behind one after the other.
-use Rattle.std.proofs.Common.{◌≡◌, sym, ◌∙◌, ap, List, [], ◌∷◌, ℕ, zero, suc, ◌+◌, ◌-◌, ◌*◌, ◌^◌, ◌<◌, ◌≤◌, mul_comm, mul-le-mul_right, suc-mul, arith, ℤ, length, take, drop, length-take, length-drop, take_at, drop_at, length-take-le, take-take, drop-drop, eq-eqb, ne_eqb}
+use Rattle.std.proofs.Common.{◌≡◌, true, sym, ◌∙◌, ap, List, [], ◌∷◌, ℕ, zero, suc, ◌+◌, ◌-◌, ◌*◌, ◌^◌, ◌<◌, ◌≤◌, mul_comm, mul-le-mul_right, suc-mul, arith, ℤ, length, take, drop, length-take, length-drop, take_at, drop_at, length-take-le, take-take, drop-drop, eq-eqb, ne_eqb}
 use native.Mathlib.Decide.{ℕ_discrete}
 use lib.Arith.{digits_lt, digits_mod}
 use lib.Seq.{take-nil}
 use borrow.Rule.Slice.PartMut.{put_mid, take_put, drop_put, same_len_mid}
 use Rattle.settings.specs.declared.Settings.{Settings}
+use Rattle.settings.specs.Legal.{limited}
+use Rattle.settings.specs.Limits.{most_samples}
 use Rattle.settings.specs.Lists.{join}
 use Rattle.predictor.specs.Differences.{Image}
 use Rattle.predictor.specs.Band.{mapped_at}
@@ -15,7 +17,7 @@ use Rattle.body_value.specs.declared.plan.Plan.{Plan}
 use Rattle.body_value.specs.declared.Place as value
 use Rattle.body_value.specs.Plan.{Inside}
 use Rattle.body_value.specs.Value.{Fits, Held}
-use Rattle.body_value.proofs.Plans.{area_fits}
+use Rattle.body_value.proofs.Plans.{area_few, area_fits}
 use Rattle.body_walk.specs.declared.rows.Row.{Row}
 use Rattle.body_walk.specs.Rows.{InRow, Strip}
 use Rattle.body_walk.specs.Standing.{part, Fit, Stand, Next, bump}
@@ -148,13 +150,19 @@ module _ (P : Plan) {r : Row} (h : InRow P r) {x : ℕ} (k : x < P.nx) where
     column_is = rw P.planned.nx_is (sym (digits_mod r.y x_in));
   }
 
--- the numbers of a row's places are small
-pub row_small : (P : Plan) {r : Row} → InRow P r → r.y * P.nx + P.nx ≤ 2 ^ 32
-row_small P {r} h =
-    let a = area_fits P.settings P.planned.legal in
+-- the numbers of a row's places are within what bounds a band's
+row_within : (P : Plan) {r : Row} {bound : ℕ} → P.settings.image.nx * P.settings.image.ny ≤ bound → InRow P r → r.y * P.nx + P.nx ≤ bound
+row_within P {r} a h =
     let e : r.y * P.nx + P.nx ≡ r.y * P.settings.image.nx + P.settings.image.nx = ap (λ (n : ℕ). r.y * n + n) P.planned.nx_is in
     let i : suc r.y * P.settings.image.nx ≤ P.settings.image.ny * P.settings.image.nx = mul-le-mul_right P.settings.image.nx h.y_in in
     omega (arith, suc-mul r.y P.settings.image.nx, mul_comm P.settings.image.nx P.settings.image.ny)
+
+pub row_small : (P : Plan) {r : Row} → InRow P r → r.y * P.nx + P.nx ≤ 2 ^ 32
+row_small P h = row_within P (area_fits P.settings P.planned.legal) h
+
+-- of an image within the house limits
+pub row_few : (P : Plan) {r : Row} → limited P.settings.image ≡ true → InRow P r → r.y * P.nx + P.nx ≤ most_samples
+row_few P k h = row_within P (area_few P.settings P.planned.legal k) h
 
 pub inside : {P : Plan} {first : value.Place} {to z : ℕ} → Strip P first to → z < to → Inside P (record { z = z; t = first.t; x = first.x })
 inside h k = record { band_in = let w = h.within in omega arith; place_in = h.place_in; column_is = h.column_is }
