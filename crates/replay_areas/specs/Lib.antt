@@ -1,3 +1,4 @@
--- What the words of an input say, and the hash of an area.
+-- What the words of an input say, the hash of an area, and what a line tells.
 pub mod Records
 pub mod Hash
+pub mod Lines

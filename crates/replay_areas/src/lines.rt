@@ -1,4 +1,7 @@
 // The line of a call: its name, the number and the value of the word that it answered, and the hash of what it was lent.
+ghost use Rattle.std.specs.Prelude.{Some};
+ghost use Rattle.replay_areas.specs.Lines.{told_text};
+
 use std::fmt::{self, Display};
 use std::io::{self, Write};
 
@@ -13,6 +16,8 @@ pub struct Told {
 }
 
 impl Display for Told {
+    ghost output = { λ t. Some (told_text t.answer t.hash) };
+
     fn fmt<W: fmt::Write>(&self, f: &mut fmt::Formatter<W>) -> fmt::Result {
         let number = self.answer / NUMBER_UNIT;
         let value = self.answer % NUMBER_UNIT;
